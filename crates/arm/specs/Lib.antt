@@ -1,0 +1,4 @@
+pub mod Fields
+pub mod Instr
+pub mod Decode
+pub mod Claims
