@@ -1,0 +1,3 @@
+pub mod Carries
+pub mod Lists
+pub mod Pairs

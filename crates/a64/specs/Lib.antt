@@ -1,0 +1,4 @@
+pub mod Conditions
+pub mod Constants
+pub mod Ranges
+pub mod Sequences

@@ -1,0 +1,58 @@
+-- An answer by cases is the answer of the definition. Assumes nothing.
+use Prim.Native.Nat.{ℕ}
+use native.Mathlib.Omega.{arith}
+use mathlib.Core.Path.{_≡_, refl, ap, sym, _∙_}
+use mathlib.Core.Bool.{Bool, true, false}
+use lib.Dec.{T}
+use Rattle.arm.specs.declared.Instr.{Instr}
+use Rattle.arm.specs.Instr.{encode, Carried}
+use Rattle.arm.specs.Decode.{carried}
+use Rattle.arm.proofs.RoundTrip.{true-carried, carried-true}
+use Rattle.words.specs.declared.Encoded.{Encoded}
+use Rattle.words.specs.declared.Encoded.the-variants.{Word, Refused}
+use Rattle.words.specs.Answers.{Answers, answer, answerIf, pick, wordOf}
+
+answer-by : (i : Instr) (r : Encoded) (b : Bool) → (T b → Carried i) → (Carried i → T b) → Answers i r → r ≡ pick b (Word (encode i)) (Refused 13)
+answer-by i (Word w) true f g h = ap Word (h .1)
+answer-by i (Word w) false f g h = absurd (g (h .0))
+answer-by i (Refused n) true f g h = absurd (h .1 (f tt))
+answer-by i (Refused n) false f g h = ap Refused (h .0)
+
+pub answers-is : (i : Instr) (r : Encoded) → Answers i r → r ≡ answer i
+unfolding answer
+answers-is i r h = answer-by i r (carried i) (true-carried i) (carried-true i) h
+
+-- in the arm of the case p of i
+pub arm : (i p : Instr) (r : Encoded) → i ≡ p → Answers p r → r ≡ answer i
+arm i p r e h = answers-is p r h ∙ ap answer (sym e)
+
+pub ruleset arms = arm
+
+pub holds : (b : Bool) (i : Instr) (r : Encoded) → b ≡ true → r ≡ answer i → r ≡ answerIf b i
+unfolding answer answerIf
+holds true i r e h = h
+holds false i r e h = absurd (let z : _≡_ {A = ℕ} 0 1 = cc in omega arith)
+
+pub fails : (b : Bool) (i : Instr) → b ≡ false → Refused 13 ≡ answerIf b i
+unfolding answerIf
+fails true i e = absurd (let z : _≡_ {A = ℕ} 0 1 = cc in omega arith)
+fails false i e = refl
+
+-- the word of an answer, by its cases
+pub is-word : (i : Instr) (r : Encoded) (w : ℕ) → r ≡ answer i → r ≡ Word w → w ≡ wordOf (answer i)
+is-word i r w h e = ap wordOf (sym e ∙ h)
+
+pub no-word : (i : Instr) (r : Encoded) (n : ℕ) → r ≡ answer i → r ≡ Refused n → 0 ≡ wordOf (answer i)
+no-word i r n h e = ap wordOf (sym e ∙ h)
+
+-- an answer for an operand is the answer for what the operand is
+pub with : {A : Type 0} (f : A → Encoded) {x y : A} {r : Encoded} → r ≡ f x → x ≡ y → r ≡ f y
+with f h e = h ∙ ap f e
+
+pub carried-word : (i : Instr) → Carried i → answer i ≡ Word (encode i)
+unfolding answer
+carried-word i h = go (carried i) (carried-true i h)
+  where
+    go : (b : Bool) → T b → pick b (Word (encode i)) (Refused 13) ≡ Word (encode i)
+    go true t = refl
+    go false t = absurd t
