@@ -1,0 +1,8 @@
+mod Digits
+mod Eight
+mod Room
+mod Rows
+mod Search
+mod Sets
+pub mod Signs
+mod Words
