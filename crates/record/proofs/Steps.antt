@@ -1,0 +1,291 @@
+-- Operations, one after the other: what an operation without a fault satisfies, and how one more step of reading goes.
+use mathlib.Core.Path.{_≡_, refl, sym, ap, ap₂, _∙_}
+use mathlib.Core.Bool.{Bool, true, false, not}
+use mathlib.Core.List.{List, [], _∷_}
+use Prim.Native.Nat.{ℕ, zero, suc, _+_, _*_, _-_, _<_, _≤_}
+use native.Mathlib.Omega.{arith}
+use native.Mathlib.Nat.{not-suc-le-zero, le-of-suc-le-suc}
+use native.Mathlib.Numerals.{add-one}
+use borrow.Author.Tests.{ltb-false, leb-false, eqb-true, le-leb, lt-leb}
+use lib.Dec.{leb, ltb, eqb}
+use lib.ListN.{length, getD, set, length-set}
+use lib.Seq.{getD-set-same}
+use Rattle.block.specs.declared.BOp.{BOp}
+use Rattle.block.specs.declared.Layout.{Layout}
+use Rattle.block.specs.declared.Memory.{Memory}
+use Rattle.block.specs.declared.Addresses.{Addresses}
+use Rattle.block.specs.declared.Block.{Block}
+use Rattle.block.specs.Block.{kindOf, mayJump}
+use Rattle.record.specs.Kinds.{Kind, kinds, kindAt, fastOf}
+use Rattle.record.specs.Record.{_gives_, byteAt, payloadLength, payload, cut, operandsFit, operands, contentsFault, operationOf, nop, lastJumps, operationFault, Reading, accepted, refused, refusedOr, push, operations}
+use Rattle.record.proofs.Laws.{Whole, not-cut, then-zero, gives-zero, not-true}
+
+-- ---- a kind's number
+
+abbrev Numbered : ℕ → List Kind → Type 0
+Numbered i [] = Unit {0}
+Numbered i (r ∷ rs) = ((x : ℕ → ℕ) → kindOf (r .fast x) ≡ i) × Numbered (suc i) rs
+
+-- each row makes an operation of its own number
+numbered : Numbered 0 kinds
+numbered = (
+  λ x. refl,
+  (
+    λ x. refl,
+    (
+      λ x. refl,
+      (
+        λ x. refl,
+        (
+          λ x. refl,
+          (
+            λ x. refl,
+            (
+              λ x. refl,
+              (
+                λ x. refl,
+                (
+                  λ x. refl,
+                  (
+                    λ x. refl,
+                    (
+                      λ x. refl,
+                      (
+                        λ x. refl,
+                        (
+                          λ x. refl,
+                          (
+                            λ x. refl,
+                            (
+                              λ x. refl,
+                              (
+                                λ x. refl,
+                                (
+                                  λ x. refl,
+                                  (
+                                    λ x. refl,
+                                    (
+                                      λ x. refl,
+                                      (
+                                        λ x. refl,
+                                        (
+                                          λ x. refl,
+                                          (
+                                            λ x. refl,
+                                            (
+                                              λ x. refl,
+                                              (
+                                                λ x. refl,
+                                                (
+                                                  λ x. refl,
+                                                  (
+                                                    λ x. refl,
+                                                    (
+                                                      λ x. refl,
+                                                      (
+                                                        λ x. refl,
+                                                        (
+                                                          λ x. refl,
+                                                          (
+                                                            λ x. refl,
+                                                            (
+                                                              λ x. refl,
+                                                              (
+                                                                λ x. refl,
+                                                                (
+                                                                  λ x. refl,
+                                                                  (
+                                                                    λ x. refl,
+                                                                    (
+                                                                      λ x. refl,
+                                                                      (
+                                                                        λ x. refl,
+                                                                        (
+                                                                          λ x. refl,
+                                                                          (
+                                                                            λ x. refl,
+                                                                            (
+                                                                              λ x. refl,
+                                                                              (
+                                                                                λ x. refl,
+                                                                                tt,
+                                                                              ),
+                                                                            ),
+                                                                          ),
+                                                                        ),
+                                                                      ),
+                                                                    ),
+                                                                  ),
+                                                                ),
+                                                              ),
+                                                            ),
+                                                          ),
+                                                        ),
+                                                      ),
+                                                    ),
+                                                  ),
+                                                ),
+                                              ),
+                                            ),
+                                          ),
+                                        ),
+                                      ),
+                                    ),
+                                  ),
+                                ),
+                              ),
+                            ),
+                          ),
+                        ),
+                      ),
+                    ),
+                  ),
+                ),
+              ),
+            ),
+          ),
+        ),
+      ),
+    ),
+  ),
+)
+
+number-from : (i : ℕ) (rs : List Kind) (d : Kind) → Numbered i rs → (k : ℕ) → k < length rs → (x : ℕ → ℕ) → kindOf (getD rs k d .fast x) ≡ i + k
+number-from i [] d h k l x = absurd (not-suc-le-zero l)
+number-from i (r ∷ rs) d h zero l x = h .0 x ∙ omega arith
+number-from i (r ∷ rs) d h (suc k) l x =
+    let e : kindOf (getD rs k d .fast x) ≡ suc i + k = number-from (suc i) rs d (h .1) k (le-of-suc-le-suc l) x in
+    e ∙ omega arith
+
+pub kind-number : (k : ℕ) (xs : List ℕ) → k < 40 → kindOf (fastOf k xs) ≡ k
+kind-number k xs h = number-from 0 kinds _ numbered k h (λ i. getD xs i 0) ∙ omega arith
+
+-- ---- an operation without a fault
+
+pub record Contents (p : List ℕ) : Type 0 where
+  pub long : 3 ≤ length p
+  pub kind : byteAt p 0 < 40
+  pub size : length p ≡ 3 + 4 * length (kindAt (byteAt p 0) .operands)
+  pub glue : byteAt p 2 ≤ 1
+  pub fit : operandsFit (kindAt (byteAt p 0) .operands) p 0 ≡ true
+
+pub contents : (p : List ℕ) → contentsFault p ≡ 0 → Contents p
+unfolding contentsFault
+contents p e =
+    let a = then-zero (ltb (length p) 3 gives 2) _ e in
+    let b = then-zero (leb (length kinds) (byteAt p 0) gives 3) _ (a .1) in
+    let c = then-zero (not (eqb (length p) (3 + 4 * length (kindAt (byteAt p 0) .operands))) gives 2) _ (b .1) in
+    let d = then-zero (ltb 1 (byteAt p 2) gives 4) _ (c .1) in
+    record {
+      long = ltb-false (length p) 3 (gives-zero _ 1 (a .0));
+      kind = leb-false (length kinds) (byteAt p 0) (gives-zero _ 2 (b .0));
+      size = eqb-true _ _ (not-true _ (gives-zero _ 1 (c .0)));
+      glue = ltb-false 1 (byteAt p 2) (gives-zero _ 3 (d .0));
+      fit = not-true _ (gives-zero _ 3 (d .1));
+    }
+
+pub record Good (s : List ℕ) (at n : ℕ) (jumped : Bool) : Type 0 where
+  pub whole : Whole s at (payloadLength s at)
+  pub room : n < 32
+  pub before : jumped ≡ false
+  pub contents : Contents (payload s at)
+
+pub good : (s : List ℕ) (at n : ℕ) (jumped : Bool) → operationFault s at n jumped ≡ 0 → Good s at n jumped
+unfolding operationFault
+good s at n jumped e =
+    let a = then-zero (cut s at gives 1) _ e in
+    let b = then-zero (not (eqb (byteAt s at) 5) gives 2) _ (a .1) in
+    let c = then-zero (leb 32 n gives 8) _ (b .1) in
+    let d = then-zero (jumped gives 9) _ (c .1) in
+    record {
+      whole = not-cut s at (gives-zero _ 0 (a .0));
+      room = leb-false 32 n (gives-zero _ 7 (c .0));
+      before = gives-zero _ 8 (d .0);
+      contents = contents (payload s at) (d .1);
+    }
+
+-- "Kinds 30 to 39 jump."
+pub jumps : (p : List ℕ) → byteAt p 0 < 40 → leb 30 (byteAt p 0) ≡ mayJump (operationOf p .fast)
+unfolding operationOf
+jumps p h = ap (leb 30) (sym (kind-number (byteAt p 0) (operands p) h))
+
+-- ---- one more step
+
+-- a field with this fault is where reading stops
+pub refuse : {f : ℕ} (g place : ℕ) (next : Reading) → f ≡ g → (f ≡ 0 → ⊥) → refused f place ≡ refusedOr g place next
+unfolding refusedOr
+refuse {f} zero place next e ne = absurd (ne e)
+refuse {f} (suc g) place next e ne = rw e
+
+-- a field without a fault is passed
+pub pass : {f : ℕ} (g place : ℕ) (next : Reading) → f ≡ g → f ≡ 0 → next ≡ refusedOr g place next
+unfolding refusedOr
+pass {f} g place next e z = let y : g ≡ 0 = sym e ∙ z in rw y
+
+pub last-jumps : (n : ℕ) (ops : List BOp) (o : BOp) → n < length ops → lastJumps (n + 1) (set ops n o) ≡ mayJump (o .fast)
+last-jumps n ops o h = rw (add-one, getD-set-same ops n o nop h)
+
+abbrev pub block-of : Layout → Memory → Addresses → ℕ → List BOp → ℕ → Block
+block-of l m a p ops n = record { layout = l; memory = m; addresses = a; pc0 = p; ops = ops; n = n }
+
+ends : (k : ℕ) (s : List ℕ) (at : ℕ) (b : Block) → length s ≤ at → accepted b ≡ operations k s at b
+unfolding operations
+ends zero s at b h = refl
+ends (suc k) s at b h = rw (le-leb _ _ h)
+
+pub at-end : (s : List ℕ) (at n : ℕ) (b : Block) → length s ≤ at → accepted b ≡ operations (33 - n) s at b
+at-end s at n b h = ends (33 - n) s at b h
+
+refuses : (k : ℕ) (s : List ℕ) (at : ℕ) (b : Block) → at < length s → (operationFault s at (b .n) (lastJumps (b .n) (b .ops)) ≡ 0 → ⊥)
+    → refused (operationFault s at (b .n) (lastJumps (b .n) (b .ops))) at ≡ operations (suc k) s at b
+unfolding operations
+refuses k s at b h ne = rw (lt-leb (length s) at h) (refuse _ at _ refl ne)
+
+goes-on : (k : ℕ) (s : List ℕ) (at : ℕ) (b : Block) → at < length s → operationFault s at (b .n) (lastJumps (b .n) (b .ops)) ≡ 0
+    → operations k s (at + 3 + payloadLength s at) (push b (operationOf (payload s at))) ≡ operations (suc k) s at b
+unfolding operations
+goes-on k s at b h e = rw (lt-leb (length s) at h) (pass _ at _ refl e)
+
+fuel : (n : ℕ) → n ≤ 32 → 33 - n ≡ suc (32 - n)
+fuel n h = omega arith
+
+pub at-fault : (s : List ℕ) (at : ℕ) (b : Block) → b .n ≤ 32 → at < length s
+    → (operationFault s at (b .n) (lastJumps (b .n) (b .ops)) ≡ 0 → ⊥)
+    → refused (operationFault s at (b .n) (lastJumps (b .n) (b .ops))) at ≡ operations (33 - b .n) s at b
+at-fault s at b m h ne = refuses (32 - b .n) s at b h ne ∙ ap (λ (k : ℕ). operations k s at b) (sym (fuel (b .n) m))
+
+pub at-operation : (s : List ℕ) (at : ℕ) (b : Block) → b .n < 32 → at < length s
+    → operationFault s at (b .n) (lastJumps (b .n) (b .ops)) ≡ 0
+    → operations (33 - (b .n + 1)) s (at + 3 + payloadLength s at) (push b (operationOf (payload s at))) ≡ operations (33 - b .n) s at b
+at-operation s at b m h e =
+    let l : b .n ≤ 32 = omega arith in
+    let k : 33 - (b .n + 1) ≡ 32 - b .n = omega arith in
+    ap (λ (j : ℕ). operations j s (at + 3 + payloadLength s at) (push b (operationOf (payload s at)))) k
+    ∙ goes-on (32 - b .n) s at b h e
+    ∙ ap (λ (j : ℕ). operations j s at b) (sym (fuel (b .n) l))
+
+-- the loop's invariant, one operation on
+pub again :
+    (s : List ℕ) (at n : ℕ) (ops : List BOp) (jumped : Bool) (l : Layout) (m : Memory) (a : Addresses) (p : ℕ) (r : Reading)
+    → at < length s → n ≤ 32 → length ops ≡ 32 → jumped ≡ lastJumps n ops → operations (33 - n) s at (block-of l m a p ops n) ≡ r
+    → operationFault s at n jumped ≡ 0
+    → (size : ℕ) → size ≡ payloadLength s at
+    → (o : BOp) → o ≡ operationOf (payload s at)
+    → (k : ℕ) → k ≡ byteAt (payload s at) 0
+    → (at + 3 + size ≤ length s)
+    × (n + 1 ≤ 32)
+    × (length (set ops n o) ≡ 32)
+    × (leb 30 k ≡ lastJumps (n + 1) (set ops n o))
+    × (operations (33 - (n + 1)) s (at + 3 + size) (block-of l m a p (set ops n o) (n + 1)) ≡ r)
+again s at n ops jumped l m a p r inside room full before so-far none size esize o eo k ek =
+    let g : Good s at n jumped = good s at n jumped none in
+    let h : n < length ops = omega (arith, g .room, full) in
+    let none′ : operationFault s at n (lastJumps n ops) ≡ 0 = ap (operationFault s at n) (sym before) ∙ none in (
+      rw esize (g .whole .inside),
+      omega (arith, g .room),
+      length-set ops n o ∙ full,
+      ap (leb 30) ek ∙ jumps (payload s at) (g .contents .kind) ∙ ap (λ (q : BOp). mayJump (q .fast)) (sym eo) ∙ sym (last-jumps n ops o h),
+      ap₂ (λ (i : ℕ) (q : BOp). operations (33 - (n + 1)) s (at + 3 + i) (block-of l m a p (set ops n q) (n + 1))) esize eo
+          ∙ at-operation s at (block-of l m a p ops n) (g .room) inside none′
+          ∙ so-far,
+    )

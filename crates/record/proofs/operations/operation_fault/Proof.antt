@@ -1,0 +1,108 @@
+-- `operation_fault` meets its contract: the tests in order; the part lent is the payload.
+use borrow.Author.Needs.{needs}
+use Rattle.record.proofs.operations.operation_fault.Statement.{statement}
+use Rattle.record.proofs.operations.operation_fault.Tie as tie
+use mathlib.Core.Path.{sym, ap, _∙_}
+use native.Mathlib.Omega.{arith}
+use borrow.Author.Tests.{le-leb, lt-leb, eq-eqb, ne-eqb}
+use Rattle.record.specs.Record.{cut, contentsFault, operationFault}
+use Rattle.record.proofs.Laws.{not-cut, payload-range}
+
+cut-requires : tie.Need-cut-requires
+cut-requires c κs = search needs
+
+returns : tie.Need-returns
+unfolding operationFault
+returns c = let e = sym (c .before .cut .ensures) ∙ c .if1 .taken in rw e
+
+byte-requires : tie.Need-byte-requires
+byte-requires c κs = search needs
+
+returns-2 : tie.Need-returns-2
+unfolding operationFault
+returns-2 c =
+    let e = sym (c .before .before .before .cut .ensures) ∙ c .before .before .if1 .left in
+    rw (e, ← c .before .byte .ensures, ne-eqb _ _ (c .if2 .taken))
+
+returns-3 : tie.Need-returns-3
+unfolding operationFault
+returns-3 c =
+    let e = sym (c .before .before .before .before .cut .ensures) ∙ c .before .before .before .if1 .left in
+    rw (e, ← c .before .before .byte .ensures, eq-eqb _ _ (c .before .if2 .left), le-leb _ _ (c .if3 .taken))
+
+returns-4 : tie.Need-returns-4
+unfolding operationFault
+returns-4 c =
+    let e = sym (c .before .before .before .before .before .cut .ensures) ∙ c .before .before .before .before .if1 .left in
+    rw (
+      e,
+      ← c .before .before .before .byte .ensures,
+      eq-eqb _ _ (c .before .before .if2 .left),
+      lt-leb _ _ (c .before .if3 .left),
+      c .if4 .taken,
+    )
+
+add-from : tie.Need-add-from
+add-from c = search needs
+
+add-get16 : tie.Need-add-get16
+add-get16 c = search needs
+
+get16-requires : tie.Need-get16-requires
+get16-requires c κs = search needs
+
+cast-end : tie.Need-cast-end
+cast-end c = search needs
+
+add-end : tie.Need-add-end
+add-end c = search needs
+
+sub-contents-fault : tie.Need-sub-contents-fault
+sub-contents-fault c = search needs
+
+part-contents-fault-start : tie.Need-part-contents-fault-start
+part-contents-fault-start c = search needs
+
+part-contents-fault-end : tie.Need-part-contents-fault-end
+part-contents-fault-end c =
+    let e = sym (c .before .before .before .before .before .before .cut .ensures) ∙ c .before .before .before .before .before .if1 .left in
+    omega (arith, not-cut (c .before .before .before .before .before .before .before .before .args .s .now) (c .before .before .before .before .before .before .before .before .args .at) e .inside, c .get16 .ensures .0)
+
+contents-fault-requires : tie.Need-contents-fault-requires
+contents-fault-requires c κs = search needs
+
+returns-5 : tie.Need-returns-5
+unfolding operationFault
+returns-5 c =
+    let e =
+    sym (c .before .before .before .before .before .before .before .before .cut .ensures)
+    ∙ c .before .before .before .before .before .before .before .if1 .left in
+    rw (
+      e,
+      ← c .before .before .before .before .before .before .byte .ensures,
+      eq-eqb _ _ (c .before .before .before .before .before .if2 .left),
+      lt-leb _ _ (c .before .before .before .before .if3 .left),
+      c .before .before .before .if4 .left,
+    )
+    (c .contents-fault .ensures ∙ ap contentsFault (payload-range (c .before .before .before .before .before .before .before .before .before .before .args .s .now) (c .before .before .before .before .before .before .before .before .before .before .args .at) _ (c .before .before .get16 .ensures .0)))
+
+pub operation-fault-spec : {M : Type 1} → statement M
+operation-fault-spec =
+    tie.close
+    (tie.spec
+    cut-requires
+    returns
+    byte-requires
+    returns-2
+    returns-3
+    returns-4
+    add-from
+    add-get16
+    get16-requires
+    cast-end
+    add-end
+    sub-contents-fault
+    part-contents-fault-start
+    part-contents-fault-end
+    contents-fault-requires
+    returns-5)

@@ -1,0 +1,166 @@
+// The reader of block records: a checked block, or the number and place of the first fault.
+ghost use mathlib.Core.Path.{_≡_};
+ghost use Prim.Native.Nat.{_+_, _≤_, _<_};
+ghost use lib.ListN.{length};
+ghost use Rattle.block.specs.Checked.{Checked};
+ghost use Rattle.record.specs.Record.{Accepted, empty, fieldFault, refused as refusedAt, header as headerOf, operations as operationsOf, reading};
+
+mod fields;
+mod kinds;
+mod numbers;
+mod operations;
+
+use crate::fields::addresses_field;
+use crate::fields::addresses_of;
+use crate::fields::layout_field;
+use crate::fields::layout_of;
+use crate::fields::memory_field;
+use crate::fields::memory_of;
+use crate::fields::start_field;
+use crate::numbers::byte;
+use crate::numbers::get16;
+use crate::numbers::get32;
+use crate::operations::operation_fault;
+use crate::operations::operation_of;
+use block::Addresses;
+use block::BOp;
+use block::Block;
+use block::Fast;
+use block::Layout;
+use block::Memory;
+
+// What reading finds: a checked block, or a fault by number and place.
+pub enum Answer {
+    Accepted,
+    Refused(u32, usize),
+}
+
+// The answer, with the block where it is accepted.
+pub struct Reading {
+    pub answer: Answer,
+    pub block: Block,
+}
+
+// What a refusal holds in the block's place.
+fn no_block() -> Block
+    ensures { λ r. ⌜ r ≡ empty ⌝ }
+{
+    let nop = BOp {
+        fast: Fast::Nop,
+        len: 0,
+        glue: false,
+    };
+    Block {
+        layout: Layout {
+            regs: 0,
+            sp: 0,
+            rets: 0,
+            pc: 0,
+            hold: 0,
+        },
+        memory: Memory {
+            ram_base: 0,
+            ram_len: 0,
+            xip_base: 0,
+            xip_len: 0,
+            map: false,
+        },
+        addresses: Addresses {
+            h_read: 0,
+            h_write: 0,
+            table: 0,
+        },
+        pc0: 0,
+        ops: [nop; 32],
+        n: 0,
+    }
+}
+
+fn refused(number: u32, place: usize) -> Reading
+    ensures { λ r. ⌜ r ≡ refusedAt number place ⌝ }
+{
+    Reading {
+        answer: Answer::Refused(number, place),
+        block: no_block(),
+    }
+}
+
+// Fields 01 to 04, and no operation.
+fn header(s: &[u8]) -> Block
+    requires { ⌜ (fieldFault (now s) 0 1 20 ≡ 0) × (fieldFault (now s) 23 2 17 ≡ 0) × (fieldFault (now s) 43 3 24 ≡ 0) × (fieldFault (now s) 70 4 4 ≡ 0) ⌝ }
+    ensures { λ r. ⌜ r ≡ headerOf (now (s .entry)) ⌝ }
+{
+    let none = no_block();
+    let ops = none.ops;
+    Block {
+        layout: layout_of(&s[3..23]),
+        memory: memory_of(&s[26..43]),
+        addresses: addresses_of(&s[46..70]),
+        pc0: get32(&s[73..77], 0),
+        ops,
+        n: 0,
+    }
+}
+
+// The operations behind field 04, up to the record's end.
+fn read_operations(s: &[u8], b: Block) -> Reading
+    requires { ⌜ (77 ≤ length (now s)) × (b .n ≡ 0) × (length (b .ops) ≡ 32) ⌝ }
+    ensures { λ r. ⌜ r ≡ operationsOf 33 (now (s .entry)) 77 b ⌝ }
+{
+    let layout = b.layout;
+    let memory = b.memory;
+    let addresses = b.addresses;
+    let pc0 = b.pc0;
+    let mut ops = b.ops;
+    let mut n: usize = 0;
+    let mut jumped = false;
+    let mut at: usize = 77;
+    while at < s.len() {
+        let fault = operation_fault(s, at, n, jumped);
+        if fault != 0 {
+            return refused(fault, at);
+        }
+        let from = at + 3;
+        let end = from + get16(s, at + 1) as usize;
+        let payload = &s[from..end];
+        ops[n] = operation_of(payload);
+        jumped = 30 <= byte(payload, 0);
+        n += 1;
+        at = end;
+    }
+    Reading {
+        answer: Answer::Accepted,
+        block: Block {
+            layout,
+            memory,
+            addresses,
+            pc0,
+            ops,
+            n: n as u32,
+        },
+    }
+}
+
+// The whole reader: any bytes, of any length.
+pub fn read(s: &[u8]) -> Reading
+    ensures { λ r. ⌜ r ≡ reading (now (s .entry)) ⌝ }
+    ensures { λ r. ⌜ (r .answer ≡ Accepted → Checked (r .block)) ⌝ }
+{
+    let layout = layout_field(s);
+    if layout != 0 {
+        return refused(layout, 0);
+    }
+    let memory = memory_field(s);
+    if memory != 0 {
+        return refused(memory, 23);
+    }
+    let addresses = addresses_field(s);
+    if addresses != 0 {
+        return refused(addresses, 43);
+    }
+    let start = start_field(s);
+    if start != 0 {
+        return refused(start, 70);
+    }
+    read_operations(s, header(s))
+}
