@@ -1,0 +1,77 @@
+-- THE CODE OF EVERY CHECKED BLOCK fits the tables, its words carry their instructions, and its jumps reach.
+use mathlib.Core.Path.{_≡_, refl, sym, ap, subst, _∙_}
+use mathlib.Core.List.{List, [], _∷_}
+use Prim.Native.Nat.{ℕ, _+_, _*_, _<_, _≤_}
+use native.Mathlib.Omega.{arith}
+use lib.ListN.{length}
+use Rattle.arm.specs.declared.Instr.{Instr}
+use Rattle.block.specs.declared.Block.{Block}
+use Rattle.block.specs.Checked.{Checked}
+use Rattle.code.specs.Items.{Sound, listing, size, poolOf}
+use Rattle.code.specs.Tree.{top, Code, code, _then_, nowhere, words, labels, wholeItems, wholeLines, poolIn, Tests, Fine}
+use Rattle.code.proofs.Tree.{whole-once, whole-met, whole-size, whole-pool, whole-length, listing-instrs, listing-lines}
+use Rattle.code.proofs.Reach.{whole-reach, whole-sound}
+use Rattle.lowering.specs.Cache.{emptyCache}
+use Rattle.lowering.specs.Steps.{blockSteps}
+use Rattle.lowering.specs.Fragments.{stepsCode, opening, closing}
+use Rattle.lowering.specs.Compile.{blockCode, blockLines, blockWords}
+use Rattle.bounds.specs.Sound.{jumps}
+use Rattle.bounds.specs.Whole.{Tables, Carries, Emitted}
+use Rattle.bounds.proofs.Fine.{empty-fits}
+use Rattle.bounds.proofs.Fragments.{steps-fine, opening-sound, closing-sound}
+use Rattle.bounds.proofs.Short.{Short, steps-short}
+use Rattle.bounds.proofs.Count.{block-few, block-fits}
+use Rattle.bounds.proofs.Pool.{three}
+
+module _ (blk : Block) (ck : Checked blk) where
+  steps : Short (48 * length (blockSteps blk)) (5 * length (blockSteps blk)) (7 * length (blockSteps blk)) (stepsCode blk emptyCache (blockSteps blk))
+  steps = steps-short blk emptyCache (blockSteps blk)
+
+  code-words : words (blockCode blk) ≤ 15469
+  unfolding blockCode words opening
+  code-words = omega (arith, steps .words-le, block-few blk ck)
+
+  lines-are : length (blockLines blk) ≡ words (blockCode blk) + 7
+  unfolding blockLines closing
+  lines-are = sym (whole-length (blockCode blk) closing) ∙ whole-size (blockCode blk) closing
+
+  closing-words : length closing ≡ 7
+  unfolding closing
+  closing-words = refl
+
+  pool-le : length (poolIn [] (blockLines blk)) ≤ 3
+  unfolding blockLines blockCode
+  pool-le = three blk opening closing emptyCache (blockSteps blk)
+
+  pub tables : Tables blk
+  unfolding blockCode labels jumps
+  tables =
+      record {
+        words = omega (arith, code-words, lines-are);
+        labels = omega (arith, steps .labels-le, block-few blk ck);
+        jumps = omega (arith, steps .jumps-le, block-few blk ck);
+        literals = pool-le;
+      }
+
+  pub carries : Carries blk
+  unfolding blockCode Fine Tests
+  carries =
+      record {
+        fine = (opening-sound, steps-fine blk ck emptyCache (blockSteps blk) empty-fits (block-fits blk ck));
+        sound = closing-sound;
+        tests = (tt, steps .tests _ _);
+        short = omega (arith, code-words, lines-are, pool-le);
+      }
+
+  pub emitted : Emitted blk
+  unfolding blockWords blockLines listing
+  emitted =
+      let c : Code top = blockCode blk in
+      let h = carries in
+      record {
+        bound-once = whole-once c closing;
+        bound = whole-met c closing;
+        reach = whole-reach c closing (h .tests) (subst (λ ps. words c + length closing + 1 + 2 * length ps < 262144) (sym (whole-pool c closing)) (omega (arith, code-words, closing-words, pool-le)));
+        carried = subst Sound (sym (listing-instrs c closing)) (whole-sound c closing (h .fine) (h .sound) (h .tests) (h .short));
+        words = sym (listing-lines c closing);
+      }

@@ -1,0 +1,114 @@
+-- What the assembler does: words, a table of label positions, fix-ups, a pool, and the patches at the end.
+use mathlib.Core.Bool.{Bool, true, false}
+use mathlib.Core.List.{List, [], _∷_, _++_}
+use Prim.Native.Nat.{ℕ, zero, suc, _+_, _-_, _*_, _/_, _%_, _^_, _<_, _≤_}
+use lib.IntN.{ℤ, pos, negsuc}
+use lib.ListN.{length, getD, set}
+use Rattle.arm.specs.declared.Instr.{Instr}
+use Rattle.arm.specs.Instr.{encode}
+use Rattle.code.specs.Items.{Hole, b, bCond, cb, tb, adr, ldr, twos, bytes, fill, Place, label, literal, Item, ins, go, new, bind, dist, index, add, halves, padOf, baseOf}
+
+-- the fields of a distance, as the Rust names them (a literal's load has B19)
+pub data Fix : Type 0 where
+  B26 B19 B14 Adr21 : Fix
+
+unfoldable pub kind : Hole → Fix
+kind b = B26
+kind (bCond c) = B19
+kind (cb s t rt) = B19
+kind (tb t n rt) = B14
+kind (adr rd) = Adr21
+kind (ldr rt) = B19
+
+-- what is added to a word for a distance
+unfoldable pub patch : Fix → ℤ → ℕ
+patch B26 z = twos (2 ^ 26) z
+patch B19 z = twos (2 ^ 19) z * 32
+patch B14 z = twos (2 ^ 14) z * 32
+patch Adr21 z = twos (2 ^ 21) (bytes z) % 4 * 2 ^ 29 + twos (2 ^ 21) (bytes z) / 4 * 32
+
+-- where a fix-up's distance leads: to a label, or to an entry of the pool
+pub data Goal : Type 0 where
+  toLabel : ℕ → Goal
+  toEntry : ℕ → Goal
+
+pub record Fixup : Type 0 where
+  pub at : ℕ
+  pub goal : Goal
+  pub field : Fix
+
+pub record St : Type 0 where
+  pub words : List ℕ
+  pub labels : List ℕ  -- the table: entry l is where label l was bound last
+  pub made : ℕ  -- labels given out
+  pub fixes : List Fixup
+  pub pool : List ℕ
+
+-- a word, and its fix-up
+unfoldable pub fixed : Hole → Goal → List ℕ → St → St
+fixed h g pool s =
+    record {
+      words = s .words ++ (encode (fill h (pos 0)) ∷ []);
+      labels = s .labels;
+      made = s .made;
+      fixes = s .fixes ++ (record { at = length (s .words); goal = g; field = kind h } ∷ []);
+      pool = pool;
+    }
+
+unfoldable pub put : Item → St → St
+put (ins i) s = record { words = s .words ++ (encode i ∷ []); labels = s .labels; made = s .made; fixes = s .fixes; pool = s .pool }
+put (go h (label l)) s = fixed h (toLabel l) (s .pool) s
+put (go h (literal v)) s = fixed h (toEntry (index v (s .pool))) (add v (s .pool)) s
+put new s = record { words = s .words; labels = s .labels; made = suc (s .made); fixes = s .fixes; pool = s .pool }
+put (bind l) s = record { words = s .words; labels = set (s .labels) l (length (s .words)); made = s .made; fixes = s .fixes; pool = s .pool }
+
+unfoldable pub run : List Item → St → St
+run [] s = s
+run (i ∷ is) s = run is (put i s)
+
+-- nothing emitted, with a table for so many labels
+unfoldable pub start : List ℕ → St
+start table = record { words = []; labels = table; made = 0; fixes = []; pool = [] }
+
+-- where a fix-up leads, the pool standing at `base`
+unfoldable pub lead : List ℕ → ℕ → Goal → ℕ
+lead labels base (toLabel l) = getD labels l 0
+lead labels base (toEntry i) = base + 2 * i
+
+-- one patch (32 bits: none is ever lost), and all in order
+unfoldable pub patched : (Goal → ℕ) → Fixup → List ℕ → List ℕ
+patched to f ws = set ws (f .at) ((getD ws (f .at) 0 + patch (f .field) (dist (to (f .goal)) (f .at))) % 2 ^ 32)
+
+unfoldable pub patchAll : (Goal → ℕ) → List Fixup → List ℕ → List ℕ
+patchAll to [] ws = ws
+patchAll to (f ∷ fs) ws = patchAll to fs (patched to f ws)
+
+-- the pool behind the words, then the patches
+unfoldable pub finish : St → List ℕ
+finish s =
+    patchAll (lead (s .labels) (baseOf (length (s .words)) (s .pool))) (s .fixes)
+    (s .words ++ (padOf (length (s .words)) (s .pool) ++ halves (s .pool)))
+
+abbrev pub pickGoal : {A : Type 0} → Goal → A → A → A
+pickGoal (toLabel l) a c = a
+pickGoal (toEntry i) a c = c
+
+-- ---- the order of the patches: the Rust does the pool's first, then the labels'
+unfoldable pub entriesOf : List Fixup → List Fixup
+entriesOf [] = []
+entriesOf (f ∷ fs) = pickGoal (f .goal) (entriesOf fs) (f ∷ entriesOf fs)
+
+unfoldable pub branchesOf : List Fixup → List Fixup
+branchesOf [] = []
+branchesOf (f ∷ fs) = pickGoal (f .goal) (f ∷ branchesOf fs) (branchesOf fs)
+
+-- positions rise, from p on
+unfoldable pub Rising : ℕ → List Fixup → Type 0
+Rising p [] = Unit {0}
+Rising p (f ∷ fs) = (p ≤ f .at) × Rising (suc (f .at)) fs
+
+-- ---- lent room: the first elements are written, those behind stay; what does not fit is not written
+abbrev pub lay : {A : Type 0} → List A → List A → List A
+lay [] lent = lent
+lay (x ∷ xs) [] = []
+lay (x ∷ xs) (y ∷ lent) = x ∷ lay xs lent

@@ -1,0 +1,5 @@
+pub mod Items
+pub mod Emit
+pub mod Tree
+pub mod Machine
+pub mod Lent

@@ -1,0 +1,131 @@
+-- Two small blocks, their words and chain sites computed: the listings are what the commit's `compile` gives for them.
+-- Assumes nothing.
+use mathlib.Core.Path.{_≡_, refl}
+use mathlib.Core.Bool.{Bool, true, false}
+use mathlib.Core.List.{List, [], _∷_}
+use Prim.Native.Nat.{ℕ, zero, suc}
+use Rattle.block.specs.declared.Op.the-variants.{Add, Sub, And}
+use Rattle.block.specs.declared.Cond.the-variants.{Ne}
+use Rattle.block.specs.declared.Base.the-variants.{Reg}
+use Rattle.block.specs.declared.Width.the-variants.{Half as B16, Word as B32}
+use Rattle.block.specs.declared.Fast.the-variants.{Nop, Alu3, Mov2, Ld, St, BrI, PopRet}
+use Rattle.block.specs.declared.BOp.{BOp}
+use Rattle.block.specs.declared.Layout.{Layout}
+use Rattle.block.specs.declared.Memory.{Memory}
+use Rattle.block.specs.declared.Addresses.{Addresses}
+use Rattle.block.specs.declared.Block.{Block}
+use Rattle.code.specs.Items.{index, add, halves, padOf, baseOf}
+use Rattle.code.specs.Tree.{words, lines, instrs, wholeLines, poolIn, findIn, linesWords}
+use Rattle.lowering.specs.Instrs.{mov32}
+use Rattle.lowering.specs.Cache.{position, leastFrom, oldest, chosen, spill, slotFor, seated, ldReg, stReg, stored, flushFrom, flush, reloadFrom, reload}
+use Rattle.lowering.specs.Steps.{lowered, opSteps, opsSteps, blockSteps}
+use Rattle.lowering.specs.Fragments.{addImm, brkFirst, even, loads, tryRegion, extended, oddTest, mapTest, stores, call, exitImm, chain, ind, hold, checkBrk, fork, limit, load, store, stepCode, stepCache, stepsCode, opening, closing}
+use Rattle.lowering.specs.Compile.{Site, blockWords, blockLines, blockCode, sites, starts}
+
+abbrev nop : BOp
+nop = record { fast = Nop; len = 0; glue = false }
+
+-- nop up to the 32 places of a block
+abbrev padded : ℕ → List BOp → List BOp
+padded zero os = []
+padded (suc k) [] = nop ∷ padded k []
+padded (suc k) (o ∷ os) = o ∷ padded k os
+
+abbrev layout : Layout
+layout = record { regs = 0; sp = 64; rets = 68; pc = 72; hold = 76 }
+
+abbrev addresses : Addresses
+addresses = record { «h_read» = 0x1111222233334444; «h_write» = 0x5555666677778888; table = 0x9999aaaabbbbcccc }
+
+-- Ten registers in eight slots, one given up unchanged and one changed; a negative offset; a break check without glue; the read helper's literal
+-- shared; the end by the jump table, the break word asked first. Behind an odd length a nop.
+abbrev first : Block
+first =
+    record {
+      layout = layout;
+      memory = record { «ram_base» = 0x20000000; «ram_len» = 64; «xip_base» = 0x02000000; «xip_len» = 16; map = false };
+      addresses = addresses;
+      pc0 = 0x02000100;
+      ops =
+          padded 32
+          (record { fast = Alu3 0 1 2 Add; len = 2; glue = false }
+          ∷ record { fast = Alu3 3 4 5 Sub; len = 2; glue = false }
+          ∷ record { fast = Alu3 6 7 8 And; len = 4; glue = false }
+          ∷ record { fast = Ld 9 (Reg 2) 0xfffffff8 B32 false; len = 2; glue = false }
+          ∷ record { fast = PopRet; len = 2; glue = false }
+          ∷ []);
+      n = 5;
+    }
+
+pub first-words : blockWords first ≡
+    0xa9ba7bfd ∷ 0xa90153f3 ∷ 0xa9025bf5 ∷ 0xa90363f7 ∷ 0xa9046bf9 ∷ 0xa90573fb ∷ 0xaa0003f3 ∷ 0xaa0103f4
+    ∷ 0xaa0203f5 ∷ 0xaa0303f6 ∷ 0x2a0403fb ∷ 0xaa0503f9 ∷ 0x5280001a ∷ 0x11001749 ∷ 0x6b1b013f ∷ 0x540000c9
+    ∷ 0x52802009 ∷ 0x72a04009 ∷ 0xb9004a69 ∷ 0x11000340 ∷ 0x14000076 ∷ 0xb9400665 ∷ 0x2a0503e0 ∷ 0xb9400a66
+    ∷ 0x2a0603e1 ∷ 0x0b010000 ∷ 0x2a0003e7 ∷ 0xb9401268 ∷ 0x2a0803e0 ∷ 0xb940166e ∷ 0x2a0e03e1 ∷ 0x4b010000
+    ∷ 0x2a0003ef ∷ 0xb9401e70 ∷ 0x2a1003e0 ∷ 0xb9402271 ∷ 0x2a1103e1 ∷ 0x0a010000 ∷ 0x2a0003e5 ∷ 0x2a0603e0
+    ∷ 0x51002000 ∷ 0x52a40002 ∷ 0x4b020003 ∷ 0x52800782 ∷ 0x6b02007f ∷ 0x54000068 ∷ 0xb8634aa0 ∷ 0x14000019
+    ∷ 0x52a04002 ∷ 0x4b020003 ∷ 0x52800182 ∷ 0x6b02007f ∷ 0x54000068 ∷ 0xb8634ac0 ∷ 0x14000012 ∷ 0x2a0003e1
+    ∷ 0xaa1403e0 ∷ 0x11000f42 ∷ 0x52800083 ∷ 0xb9001a65 ∷ 0xb9000267 ∷ 0xb9000e6f ∷ 0x58000a89 ∷ 0xd63f0120
+    ∷ 0xb9401a65 ∷ 0xb9400a66 ∷ 0xb9400267 ∷ 0xb9401268 ∷ 0xb940166e ∷ 0xb9400e6f ∷ 0xb9401e70 ∷ 0xb9402271
+    ∷ 0xb9000267 ∷ 0x2a0003e7 ∷ 0xb9401a89 ∷ 0x34000129 ∷ 0xb9001a65 ∷ 0xb9002667 ∷ 0xb9000e6f ∷ 0x52802149
+    ∷ 0x72a04009 ∷ 0xb9004a69 ∷ 0x11001340 ∷ 0x14000037 ∷ 0xb9404260 ∷ 0x52a40002 ∷ 0x4b020003 ∷ 0x52800782
+    ∷ 0x6b02007f ∷ 0x54000068 ∷ 0xb8634aa0 ∷ 0x14000019 ∷ 0x52a04002 ∷ 0x4b020003 ∷ 0x52800182 ∷ 0x6b02007f
+    ∷ 0x54000068 ∷ 0xb8634ac0 ∷ 0x14000012 ∷ 0x2a0003e1 ∷ 0xaa1403e0 ∷ 0x11001342 ∷ 0x52800083 ∷ 0xb9001a65
+    ∷ 0xb9002667 ∷ 0xb9000e6f ∷ 0x58000509 ∷ 0xd63f0120 ∷ 0xb9401a65 ∷ 0xb9400a66 ∷ 0xb9402667 ∷ 0xb9401268
+    ∷ 0xb940166e ∷ 0xb9400e6f ∷ 0xb9401e70 ∷ 0xb9402271 ∷ 0x2a0003f7 ∷ 0xb9404260 ∷ 0x11001000 ∷ 0xb9004260
+    ∷ 0xb9001a65 ∷ 0xb9002667 ∷ 0xb9000e6f ∷ 0x2a1703ec ∷ 0x1100175a ∷ 0xb9401a89 ∷ 0x35000129 ∷ 0x5301398a
+    ∷ 0x5800028b ∷ 0x8b0a116b ∷ 0xb940016d ∷ 0x6b0c01bf ∷ 0x54000061 ∷ 0xf9400569 ∷ 0xd61f0120 ∷ 0xb9004a6c
+    ∷ 0x2a1a03e0 ∷ 0x14000001 ∷ 0xa94573fb ∷ 0xa9446bf9 ∷ 0xa94363f7 ∷ 0xa9425bf5 ∷ 0xa94153f3 ∷ 0xa8c67bfd
+    ∷ 0xd65f03c0 ∷ 0xd503201f ∷ 0x33334444 ∷ 0x11112222 ∷ 0xbbbbcccc ∷ 0x9999aaaa ∷ []
+unfolding blockWords blockLines blockCode sites starts addImm brkFirst even loads tryRegion extended oddTest mapTest stores call exitImm chain ind hold checkBrk fork limit load store stepCode stepCache stepsCode opening closing position leastFrom oldest chosen spill slotFor seated ldReg stReg stored flushFrom flush reloadFrom reload mov32 lowered opSteps opsSteps blockSteps index add halves padOf baseOf words lines instrs wholeLines poolIn findIn linesWords
+first-words = refl
+
+pub first-sites : sites first ≡ []
+unfolding blockWords blockLines blockCode sites starts addImm brkFirst even loads tryRegion extended oddTest mapTest stores call exitImm chain ind hold checkBrk fork limit load store stepCode stepCache stepsCode opening closing position leastFrom oldest chosen spill slotFor seated ldReg stReg stored flushFrom flush reloadFrom reload mov32 lowered opSteps opsSteps blockSteps index add halves padOf baseOf words lines instrs wholeLines poolIn findIn linesWords
+first-sites = refl
+
+-- A signed halfword from RAM, flash or the helper, a glued break check, a halfword stored past the code map at an offset of two words, a branch with
+-- two chain sites, several changed slots at each. Behind an even length no nop.
+abbrev second : Block
+second =
+    record {
+      layout = layout;
+      memory = record { «ram_base» = 0x20000000; «ram_len» = 65536; «xip_base» = 0x02000000; «xip_len» = 16; map = true };
+      addresses = addresses;
+      pc0 = 0x02000200;
+      ops =
+          padded 32
+          (record { fast = Mov2 1 2 3 4; len = 2; glue = false }
+          ∷ record { fast = Ld 5 (Reg 1) 6 B16 true; len = 4; glue = true }
+          ∷ record { fast = St 5 (Reg 2) 0xfffff000 B16; len = 4; glue = false }
+          ∷ record { fast = BrI 5 7 Ne 0x02000200; len = 4; glue = false }
+          ∷ []);
+      n = 4;
+    }
+
+pub second-words : blockWords second ≡
+    0xa9ba7bfd ∷ 0xa90153f3 ∷ 0xa9025bf5 ∷ 0xa90363f7 ∷ 0xa9046bf9 ∷ 0xa90573fb ∷ 0xaa0003f3 ∷ 0xaa0103f4
+    ∷ 0xaa0203f5 ∷ 0xaa0303f6 ∷ 0x2a0403fb ∷ 0xaa0503f9 ∷ 0x5280001a ∷ 0x11001349 ∷ 0x6b1b013f ∷ 0x540000c9
+    ∷ 0x52804009 ∷ 0x72a04009 ∷ 0xb9004a69 ∷ 0x11000340 ∷ 0x14000079 ∷ 0xb9400e65 ∷ 0x2a0503e0 ∷ 0xb9401266
+    ∷ 0x2a0603e1 ∷ 0x2a0003e7 ∷ 0x2a0103e8 ∷ 0x2a0703e0 ∷ 0x11001800 ∷ 0x52a40002 ∷ 0x4b020003 ∷ 0x12800022
+    ∷ 0x0a020063 ∷ 0x529fffc2 ∷ 0x6b02007f ∷ 0x54000068 ∷ 0x78e34aa0 ∷ 0x14000017 ∷ 0x52a04002 ∷ 0x4b020003
+    ∷ 0x12800022 ∷ 0x0a020063 ∷ 0x528001c2 ∷ 0x6b02007f ∷ 0x54000068 ∷ 0x78e34ac0 ∷ 0x1400000e ∷ 0x2a0003e1
+    ∷ 0xaa1403e0 ∷ 0x11000742 ∷ 0x52800043 ∷ 0xb9000667 ∷ 0xb9000a68 ∷ 0x58000be9 ∷ 0xd63f0120 ∷ 0xb9400e65
+    ∷ 0xb9401266 ∷ 0xb9400667 ∷ 0xb9400a68 ∷ 0x13003c00 ∷ 0x2a0003ee ∷ 0xb9401a89 ∷ 0x34000169 ∷ 0x52800029
+    ∷ 0xb9004e69 ∷ 0xb9000667 ∷ 0xb9000a68 ∷ 0xb900166e ∷ 0x528040c9 ∷ 0x72a04009 ∷ 0xb9004a69 ∷ 0x11000b40
+    ∷ 0x14000045 ∷ 0x2a0803e0 ∷ 0x1281ffe9 ∷ 0x0b090000 ∷ 0x2a0e03e1 ∷ 0x37000160 ∷ 0x52a40002 ∷ 0x4b020003
+    ∷ 0x529fffc2 ∷ 0x6b02007f ∷ 0x540000c8 ∷ 0x53027c62 ∷ 0x38624b22 ∷ 0x35000062 ∷ 0x78234aa1 ∷ 0x14000010
+    ∷ 0x2a0103e2 ∷ 0x2a0003e1 ∷ 0xaa1403e0 ∷ 0x11000b43 ∷ 0x52800044 ∷ 0xb9000667 ∷ 0xb9000a68 ∷ 0xb900166e
+    ∷ 0x580006c9 ∷ 0xd63f0120 ∷ 0xb9400e65 ∷ 0xb9401266 ∷ 0xb9400667 ∷ 0xb9400a68 ∷ 0xb940166e ∷ 0xb9401a89
+    ∷ 0x34000129 ∷ 0xb9000667 ∷ 0xb9000a68 ∷ 0xb900166e ∷ 0x52804149 ∷ 0x72a04009 ∷ 0xb9004a69 ∷ 0x11000f40
+    ∷ 0x1400001d ∷ 0x2a0e03e0 ∷ 0x528000e1 ∷ 0x6b01001f ∷ 0x540001a1 ∷ 0xb9000667 ∷ 0xb9000a68 ∷ 0xb900166e
+    ∷ 0x1100135a ∷ 0x14000001 ∷ 0x528041c9 ∷ 0x72a04009 ∷ 0xb9004a69 ∷ 0x10ffff8a ∷ 0xf900128a ∷ 0x2a1a03e0
+    ∷ 0x1400000d ∷ 0xb9000667 ∷ 0xb9000a68 ∷ 0xb900166e ∷ 0x1100135a ∷ 0x14000001 ∷ 0x52804009 ∷ 0x72a04009
+    ∷ 0xb9004a69 ∷ 0x10ffff8a ∷ 0xf900128a ∷ 0x2a1a03e0 ∷ 0x14000001 ∷ 0xa94573fb ∷ 0xa9446bf9 ∷ 0xa94363f7
+    ∷ 0xa9425bf5 ∷ 0xa94153f3 ∷ 0xa8c67bfd ∷ 0xd65f03c0 ∷ 0x33334444 ∷ 0x11112222 ∷ 0x77778888 ∷ 0x55556666 ∷ []
+unfolding blockWords blockLines blockCode sites starts addImm brkFirst even loads tryRegion extended oddTest mapTest stores call exitImm chain ind hold checkBrk fork limit load store stepCode stepCache stepsCode opening closing position leastFrom oldest chosen spill slotFor seated ldReg stReg stored flushFrom flush reloadFrom reload mov32 lowered opSteps opsSteps blockSteps index add halves padOf baseOf words lines instrs wholeLines poolIn findIn linesWords
+second-words = refl
+
+pub second-sites : sites second ≡ record { at = 121; target = 0x0200020e } ∷ record { at = 133; target = 0x02000200 } ∷ []
+unfolding blockWords blockLines blockCode sites starts addImm brkFirst even loads tryRegion extended oddTest mapTest stores call exitImm chain ind hold checkBrk fork limit load store stepCode stepCache stepsCode opening closing position leastFrom oldest chosen spill slotFor seated ldReg stReg stored flushFrom flush reloadFrom reload mov32 lowered opSteps opsSteps blockSteps index add halves padOf baseOf words lines instrs wholeLines poolIn findIn linesWords
+second-sites = refl

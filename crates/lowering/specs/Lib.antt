@@ -1,0 +1,5 @@
+pub mod Instrs
+pub mod Cache
+pub mod Steps
+pub mod Fragments
+pub mod Compile

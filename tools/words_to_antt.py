@@ -1,0 +1,96 @@
+"""Turns records with their listings into equations on the definitions of reading and lowering.
+
+    python3 tools/words_to_antt.py RECORDS OUT [--most WORDS]
+
+RECORDS is a file of records in the format of the oracle's vectors: a case begins with `> name words-lent record` (hexadecimal), and the
+lines up to the next `>` are its listing. OUT is the `proofs` folder of a crate that depends on record, lowering, code, block and arm; it
+gets `Words.antt` and `Lib.antt`. For each accepted record, of at most WORDS words, two equations say that the definitions give these
+very words and these very sites (by position). Each holds by computation, so that `rt check` of the crate compares every word.
+"""
+import argparse
+import os
+
+UNFOLDED = {
+    "record.specs.Record": "reading num16 num32 num64 fieldFault layoutFault regionFault memoryFault startFault contentsFault operationOf "
+                           "operationFault operations header refusedOr layoutField memoryField addressesField startField",
+    "lowering.specs.Compile": "blockWords blockLines blockCode sites starts",
+    "lowering.specs.Fragments": "addImm brkFirst even loads tryRegion extended oddTest mapTest stores call exitImm chain ind hold checkBrk "
+                                "fork limit load store stepCode stepCache stepsCode opening closing",
+    "lowering.specs.Cache": "position leastFrom oldest chosen spill slotFor seated ldReg stReg stored flushFrom flush reloadFrom reload",
+    "lowering.specs.Instrs": "mov32",
+    "lowering.specs.Steps": "lowered opSteps opsSteps blockSteps",
+    "code.specs.Items": "index add halves padOf baseOf",
+    "code.specs.Tree": "words lines instrs wholeLines poolIn findIn linesWords",
+}
+
+HEAD = """-- Each record gives these words and these sites, by computation.
+use mathlib.Core.Path.{_≡_, refl}
+use mathlib.Core.List.{List, [], _∷_}
+use Prim.Native.Nat.{ℕ, zero, suc, _/_, _%_, _^_}
+use Rattle.lowering.specs.Compile.{Site}
+"""
+
+HEX = """
+-- n bytes as one hexadecimal number, the first byte highest
+abbrev hex : ℕ → ℕ → List ℕ
+hex zero x = []
+hex (suc n) x = x / 256 ^ n % 256 ∷ hex n x
+
+abbrev site : (at target : ℕ) → Site
+site p t = record { at = p; target = t }
+"""
+
+
+def cases(path):
+    """Name, record, words and sites of each accepted record."""
+    found = []
+    for line in open(path):
+        if line.startswith("> "):
+            _, name, _, record = line.split()
+            found.append((name, record, []))
+        else:
+            found[-1][2].append(line.split())
+    for name, record, listing in found:
+        if listing and listing[0][0] == "words":
+            words = [w for line in listing[1:] if line[0] != "site" for w in line]
+            sites = sorted((int(line[1]), line[2]) for line in listing if line[0] == "site")
+            assert len(words) == int(listing[0][1])
+            yield name, record, words, sites
+
+
+def listed(items):
+    return "".join(f"{i} ∷ " for i in items) + "[]"
+
+
+def equations(n, case):
+    name, record, words, sites = case
+    unfolding = "unfolding " + " ".join(UNFOLDED.values())
+    block = f"(reading (hex {len(record) // 2} 0x{record}) .block)"
+    return f"""
+-- {name}
+words{n} : blockWords {block} ≡ {listed("0x" + w for w in words)}
+{unfolding}
+words{n} = refl
+
+sites{n} : sites {block} ≡ {listed(f"site {p} 0x{t}" for p, t in sites)}
+{unfolding}
+sites{n} = refl
+"""
+
+
+def main():
+    p = argparse.ArgumentParser()
+    p.add_argument("records")
+    p.add_argument("out")
+    p.add_argument("--most", type=int, default=1 << 30)
+    a = p.parse_args()
+    taken = [c for c in cases(a.records) if len(c[2]) <= a.most]
+    uses = "".join(f"use Rattle.{module}.{{{', '.join(names.split())}}}\n" for module, names in UNFOLDED.items())
+    with open(os.path.join(a.out, "Words.antt"), "w") as f:
+        f.write(HEAD + uses + HEX + "".join(equations(n, c) for n, c in enumerate(taken)))
+    with open(os.path.join(a.out, "Lib.antt"), "w") as f:
+        f.write("pub mod Words\n")
+    print(f"{len(taken)} records, {sum(len(c[2]) for c in taken)} words")
+
+
+main()
