@@ -1,0 +1,5 @@
+pub mod Signed
+pub mod Cases
+pub mod Track
+pub mod Walk
+pub mod Join

@@ -1,0 +1,70 @@
+-- What `finish` leaves: the pool behind the words, then each distance in its field; or zeros where the room is short.
+use mathlib.Core.Bool.{Bool}
+use mathlib.Core.List.{List, [], _∷_, _++_}
+use Prim.Native.Nat.{ℕ, zero, suc, _+_, _*_, _/_, _%_, _^_}
+use lib.Dec.{ltb, eqb}
+use lib.IntN.{ℤ, pos, negsuc}
+use lib.ListN.{length, getD, set, replicate}
+use Rattle.code.specs.Items.{pick, twos, bytes, dist, halves, padOf, baseOf}
+use Rattle.code.specs.Emit.{Fix, B26, B19, B14, Adr21}
+use Rattle.asm.specs.State.{labelRoom, fixupRoom, fixupsAt, State, atMost, kept, held}
+use Rattle.finish.specs.declared.Finished.{Finished}
+use Rattle.finish.specs.declared.Finished.the-variants.{Words, Short}
+
+-- ---- a distance in its field, tested for its range
+abbrev pub within : ℕ → ℤ → Bool
+within half (pos n) = ltb n half
+within half (negsuc n) = ltb n half
+
+unfoldable pub fieldOf : ℕ → ℤ → ℕ
+fieldOf half z = pick (within half z) (twos (2 * half) z) 0
+
+unfoldable pub patchIn : Fix → ℤ → ℕ
+patchIn B26 z = fieldOf (2 ^ 25) z
+patchIn B19 z = fieldOf (2 ^ 18) z * 32
+patchIn B14 z = fieldOf (2 ^ 13) z * 32
+patchIn Adr21 z = fieldOf (2 ^ 20) (bytes z) % 4 * 2 ^ 29 + fieldOf (2 ^ 20) (bytes z) / 4 * 32
+
+-- ---- fix-up n of the table, on the words
+unfoldable pub fixOf : ℕ → Fix
+fixOf k = pick (eqb k 0) B26 (pick (eqb k 2) B14 (pick (eqb k 3) Adr21 B19))
+
+-- to a literal of the pool at `base`, or to a label
+unfoldable pub leadIn : List ℕ → (base kind goal : ℕ) → ℕ
+leadIn t base k g = pick (eqb k 4) (base + 2 * g) (pick (ltb g labelRoom) (getD t g 0 % 2 ^ 32) 0)
+
+-- position, number and kind, as they were packed
+unfoldable pub patchedWith : List ℕ → (base entry : ℕ) → List ℕ → List ℕ
+patchedWith t base e ws =
+    set ws (e / 2 ^ 32)
+    ((getD ws (e / 2 ^ 32) 0 + patchIn (fixOf (e % 2 ^ 32 % 8)) (dist (leadIn t base (e % 2 ^ 32 % 8) (e % 2 ^ 32 / 8)) (e / 2 ^ 32))) % 2 ^ 32)
+
+unfoldable pub patchedAt : List ℕ → (base n : ℕ) → List ℕ → List ℕ
+patchedAt t base n ws = patchedWith t base (getD t (fixupsAt + n) 0) ws
+
+unfoldable pub patchedTo : List ℕ → (base n : ℕ) → List ℕ → List ℕ
+patchedTo t base zero ws = ws
+patchedTo t base (suc n) ws = patchedAt t base n (patchedTo t base n ws)
+
+-- ---- words one after the other, from position p on, where there is room
+unfoldable pub write : ℕ → List ℕ → List ℕ → List ℕ
+write p [] ws = ws
+write p (x ∷ xs) ws = write (suc p) xs (set ws p x)
+
+unfoldable pub zeros : List ℕ → List ℕ
+zeros ws = replicate (length ws) 0
+
+-- ---- the whole
+abbrev pub written : State → ℕ
+written s = atMost 1048576 (s .asm .at)
+
+unfoldable pub needed : State → ℕ
+needed s = baseOf (written s) (held s) + 2 * kept s
+
+unfoldable pub finished : State → Finished
+finished s = pick (ltb (length (s .words)) (needed s)) (Short (needed s)) (Words (needed s))
+
+unfoldable pub finishedWords : State → List ℕ
+finishedWords s =
+    pick (ltb (length (s .words)) (needed s)) (zeros (s .words))
+    (patchedTo (s .tab) (baseOf (written s) (held s)) (atMost fixupRoom (s .asm .fixups)) (write (written s) (padOf (written s) (held s) ++ halves (held s)) (s .words)))
