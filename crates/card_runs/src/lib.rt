@@ -1,0 +1,1 @@
+// Runs of whole blocks, start to end, computed by the card's definition. Theorems only, in proofs/.
