@@ -1,0 +1,15 @@
+pub mod Listing
+pub mod Registers
+pub mod Bytes
+pub mod Regions
+pub mod Flags
+pub mod Numbers
+pub mod Values
+pub mod Data
+pub mod Moves
+pub mod Access
+pub mod Control
+pub mod Calls
+pub mod Keeps
+pub mod Placed
+pub mod Fetch

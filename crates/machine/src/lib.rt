@@ -1,0 +1,1 @@
+// The A64 machine is definitions and laws alone: see specs/ and proofs/.
