@@ -1,0 +1,9 @@
+pub mod Paths
+pub mod Temps
+pub mod Numbers
+pub mod Call
+pub mod Context
+pub mod Ask
+pub mod Range
+pub mod Load
+pub mod Store

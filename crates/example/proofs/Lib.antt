@@ -1,0 +1,3 @@
+pub mod Start
+pub mod Both
+pub mod Premises

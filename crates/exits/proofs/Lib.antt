@@ -1,0 +1,9 @@
+pub mod Ways
+pub mod Leaving
+pub mod Exit
+pub mod Chain
+pub mod Lookup
+pub mod Closing
+pub mod Ends
+pub mod Start
+pub mod Opening

@@ -1,0 +1,7 @@
+pub mod Values
+pub mod Conditions
+pub mod Kind
+pub mod Bus
+pub mod Jumps
+pub mod Agree
+pub mod Fit

@@ -1,0 +1,1 @@
+// Each kind's steps do on the machine between what the card's step does.

@@ -1,0 +1,3 @@
+pub mod Encodable
+pub mod Lines
+pub mod Ready

@@ -1,0 +1,1 @@
+// The words of a checked block can be fetched, decoded and executed.

@@ -1,0 +1,10 @@
+pub mod Basics
+pub mod Frags
+pub mod Access
+pub mod Fields
+pub mod Cache
+pub mod Slots
+pub mod Flush
+pub mod Constants
+pub mod Data
+pub mod Steps

@@ -1,0 +1,314 @@
+-- Operations in sequence: where the card leaves, their code leaves in the same way.
+--     ops-leave      the operations of a block from any position on
+--     body-leaves    the block's code behind the opening words
+-- Assumes nothing.
+use mathlib.Core.Path.{_≡_, refl, sym, ap, subst, _∙_}
+use mathlib.Core.Bool.{Bool, true, false, cond, not, _&&_}
+use mathlib.Core.Option.{Option, none, some}
+use mathlib.Core.List.{List, [], _∷_, _++_, append-assoc}
+use Prim.Native.Nat.{ℕ, zero, suc, _+_, _*_, _%_, _^_, _<_, _≤_}
+use native.Mathlib.Numerals.{add-one}
+use native.Mathlib.Nat.{mod-lt, min-eq-left}
+use native.Mathlib.Omega.{arith}
+use lib.Dec.{eqb, ltb}
+use lib.ListN.{length, getD, length-take}
+use Rattle.arm.specs.declared.Size.the-variants.{W}
+use Rattle.block.specs.declared.Cond.{Cond}
+use Rattle.block.specs.declared.Cond.the-variants.{Eq, Ne}
+use Rattle.block.specs.declared.Width.{Width}
+use Rattle.block.specs.declared.Width.the-variants.{Word as B32}
+use Rattle.block.specs.declared.Fast.{Fast}
+use Rattle.block.specs.declared.Fast.the-variants.{Nop, MovI, Mov, AddRI, ShlI, SarI, Alu3, Alu3I, Alu2, Alu2I, A4, Ext, MinMax, Un, Div, Mov2, Mov2I, BitExt, BitIns, SpAdd, RFromSp, Ld, St, LdIdx, StIdx, LdPost, StPost, Rmw, PushRet, PopRets, BrI, BrR, DecBr, BitBr, Goto, Call, Rts, GotoR, CallR, PopRet}
+use Rattle.block.specs.declared.Memory.{Memory}
+use Rattle.block.specs.declared.BOp.{BOp}
+use Rattle.block.specs.declared.Block.{Block}
+use Rattle.block.specs.Block.{opsOf, mayJump}
+use Rattle.block.specs.Checked.{Checked, BOpFits, OpsFit, NoneAfterJump}
+use Rattle.code.specs.Items.{pick}
+use Rattle.code.specs.Tree.{top, Code, code, _then_, words}
+use Rattle.code.specs.Machine.{Machine, Out, fell, went, left, ended, andThen, straight, does}
+use Rattle.machine.specs.State.{State, xip, R}
+use Rattle.machine.specs.Memory.{bytesOf}
+use Rattle.machine.specs.Execute.{Helpers}
+use Rattle.card.specs.Card.{Card, arrive, reg, rhs, setReg, addSp}
+use Rattle.card.specs.Word.{plus, minus, holds}
+use Rattle.card.specs.Memory.{Access, got, unmet}
+use Rattle.card.specs.Memory.{load as loadCard}
+use lib.Bits.{bitAnd}
+use Rattle.card.specs.Step.{Way, exits, chains, looksUp, After, on, out, starved, withLoaded, indBrk, opStep}
+use Rattle.card.specs.Step.{fork as forkCard, ind as indCard}
+use Rattle.card.specs.Run.{End, stopped, checked, opsFrom}
+use Rattle.card.specs.Run.{left as leaves, andThen as thenCard, run as runCard}
+use Rattle.lowering.specs.declared.RegCache.{RegCache}
+use Rattle.lowering.specs.Cache.{emptyCache}
+use Rattle.lowering.specs.Steps.{Step, behind, opSteps, opsSteps, blockSteps}
+use Rattle.lowering.specs.Fragments.{stepCode, stepCache, stepsCode}
+use Rattle.lowering.specs.Compile.{starts}
+use Rattle.relation.specs.Lines.{arm}
+use Rattle.relation.specs.Abs.{Abs, Then, go, off, void, upd, mstep, mrun}
+use Rattle.relation.specs.Abs.{andThen as thenAbs}
+use Rattle.relation.specs.Relation.{Small, Body, Sim, siteOf, Outs, Leaves}
+use Rattle.relation.specs.Fits.{StepFits, AllFit}
+use Rattle.kinds.specs.Agrees.{Agrees}
+use Rattle.kinds.proofs.Agree.{op-agrees}
+use Rattle.kinds.proofs.Fit.{op-fits}
+use Rattle.readiness.proofs.Encodable.{AllKnown, op-known}
+use Rattle.simulation.proofs.Sites.{Sited}
+use Rattle.simulation.proofs.Steps.{leaves-as, leaves-front, front-same, Met, met-then, cacheAfter, step-met, steps-met}
+use Rattle.registers.proofs.Frags.{frag-nil}
+
+-- ---- a list of steps in two parts
+module _ (b : Block) where
+  words-append : (rc : RegCache) (xs ys : List Step) → words (stepsCode b rc (xs ++ ys)) ≡ words (stepsCode b rc xs) + words (stepsCode b (cacheAfter rc xs) ys)
+  unfolding stepsCode cacheAfter words
+  words-append rc [] ys = omega arith
+  words-append rc (x ∷ xs) ys = omega (arith, words-append (stepCache rc x) xs ys)
+
+  starts-append : (rc : RegCache) (xs ys : List Step) (p : ℕ) → starts (stepsCode b rc (xs ++ ys)) p ≡ starts (stepsCode b rc xs) p ++ starts (stepsCode b (cacheAfter rc xs) ys) (p + words (stepsCode b rc xs))
+  unfolding stepsCode cacheAfter words starts
+  starts-append rc [] ys p = ap (starts (stepsCode b rc ys)) (omega arith)
+  starts-append rc (x ∷ xs) ys p =
+      let c : Code top = stepCode b rc x in
+      let d : Code top = stepsCode b (stepCache rc x) xs in
+      let e : Code top = stepsCode b (cacheAfter (stepCache rc x) xs) ys in
+      ap (λ l. starts c p ++ l) (starts-append (stepCache rc x) xs ys (p + words c))
+      ∙ sym (append-assoc (starts c p) (starts d (p + words c)) (starts e (p + words c + words d)))
+      ∙ ap (λ q. (starts c p ++ starts d (p + words c)) ++ starts e q) (omega arith)
+
+  then-assoc : {S R : Type 0} (o : Out S R top) (f g : S → Out S R top) → andThen (andThen o f) g ≡ andThen o (λ s. andThen (f s) g)
+  then-assoc (fell s) f g = refl
+  then-assoc (went v s) f g = refl
+  then-assoc (left s) f g = refl
+  then-assoc (ended r) f g = refl
+
+  then-same : {S R : Type 0} (o : Out S R top) (f g : S → Out S R top) → ((s : S) → f s ≡ g s) → andThen o f ≡ andThen o g
+  then-same (fell s) f g e = e s
+  then-same (went v s) f g e = refl
+  then-same (left s) f g e = refl
+  then-same (ended r) f g e = refl
+
+  does-append : (M : Machine) (rc : RegCache) (xs ys : List Step) (p : ℕ) (s : M .State) → does M (stepsCode b rc (xs ++ ys)) p s
+      ≡ andThen (does M (stepsCode b rc xs) p s) (λ s₁. does M (stepsCode b (cacheAfter rc xs) ys) (p + words (stepsCode b rc xs)) s₁)
+  unfolding stepsCode cacheAfter words does straight
+  does-append M rc [] ys p s = ap (λ q. does M (stepsCode b rc ys) q s) (omega arith)
+  does-append M rc (x ∷ xs) ys p s =
+      let c : Code top = stepCode b rc x in
+      let d : Code top = stepsCode b (stepCache rc x) xs in
+      let e : Code top = stepsCode b (cacheAfter (stepCache rc x) xs) ys in
+      then-same (does M c p s) _ _ (λ s₁. does-append M (stepCache rc x) xs ys (p + words c) s₁ ∙ ap (λ q. andThen (does M d (p + words c) s₁) (λ s₂. does M e q s₂)) (omega arith))
+      ∙ sym (then-assoc (does M c p s) (λ s₁. does M d (p + words c) s₁) (λ s₂. does M e (p + (words c + words d)) s₂))
+
+-- a jump does not go on
+Gone : After → Type 0
+Gone (on c) = ⊥
+Gone (out w c) = Unit {0}
+Gone starved = Unit {0}
+
+fork-out : (u : Bool) (i next target : ℕ) (c : Card) → Gone (forkCard u i next target c)
+unfolding Gone
+fork-out true i next target c = tt
+fork-out false i next target c = tt
+
+popped-out : (r : Access) (i : ℕ) → Gone (withLoaded r (λ v c. indBrk i v (addSp 4 c)))
+unfolding Gone
+popped-out (got v c) i = by (eqb (c .brk) 0)
+  where
+    by : (u : Bool) → Gone (cond u (indCard i v (addSp 4 c)) (out exits (arrive v (suc i) (addSp 4 c))))
+    by true = tt
+    by false = tt
+popped-out unmet i = tt
+
+module _ (m : Memory) (flash : List ℕ) (i next : ℕ) (c : Card) where
+  jump-out : (f : Fast) → mayJump f ≡ true → Gone (opStep m flash i next f c)
+  unfolding opStep Gone
+  jump-out Nop e = absurd (let z : _≡_ {A = ℕ} 0 1 = cc in omega arith)
+  jump-out (MovI d v) e = absurd (let z : _≡_ {A = ℕ} 0 1 = cc in omega arith)
+  jump-out (Mov d s) e = absurd (let z : _≡_ {A = ℕ} 0 1 = cc in omega arith)
+  jump-out (AddRI d s v) e = absurd (let z : _≡_ {A = ℕ} 0 1 = cc in omega arith)
+  jump-out (ShlI d s n) e = absurd (let z : _≡_ {A = ℕ} 0 1 = cc in omega arith)
+  jump-out (SarI d s n) e = absurd (let z : _≡_ {A = ℕ} 0 1 = cc in omega arith)
+  jump-out (Alu3 d a b op) e = absurd (let z : _≡_ {A = ℕ} 0 1 = cc in omega arith)
+  jump-out (Alu3I d a v op) e = absurd (let z : _≡_ {A = ℕ} 0 1 = cc in omega arith)
+  jump-out (Alu2 d b op) e = absurd (let z : _≡_ {A = ℕ} 0 1 = cc in omega arith)
+  jump-out (Alu2I d v op) e = absurd (let z : _≡_ {A = ℕ} 0 1 = cc in omega arith)
+  jump-out (A4 d s op rk rv) e = absurd (let z : _≡_ {A = ℕ} 0 1 = cc in omega arith)
+  jump-out (Ext d s part signed) e = absurd (let z : _≡_ {A = ℕ} 0 1 = cc in omega arith)
+  jump-out (MinMax d a b kind) e = absurd (let z : _≡_ {A = ℕ} 0 1 = cc in omega arith)
+  jump-out (Un d s k) e = absurd (let z : _≡_ {A = ℕ} 0 1 = cc in omega arith)
+  jump-out (Div d a b k) e = absurd (let z : _≡_ {A = ℕ} 0 1 = cc in omega arith)
+  jump-out (Mov2 dh dl sh sl) e = absurd (let z : _≡_ {A = ℕ} 0 1 = cc in omega arith)
+  jump-out (Mov2I dh dl v) e = absurd (let z : _≡_ {A = ℕ} 0 1 = cc in omega arith)
+  jump-out (BitExt d s p l signed) e = absurd (let z : _≡_ {A = ℕ} 0 1 = cc in omega arith)
+  jump-out (BitIns d s p l) e = absurd (let z : _≡_ {A = ℕ} 0 1 = cc in omega arith)
+  jump-out (SpAdd v) e = absurd (let z : _≡_ {A = ℕ} 0 1 = cc in omega arith)
+  jump-out (RFromSp d v) e = absurd (let z : _≡_ {A = ℕ} 0 1 = cc in omega arith)
+  jump-out (Ld d b o w signed) e = absurd (let z : _≡_ {A = ℕ} 0 1 = cc in omega arith)
+  jump-out (St s b o w) e = absurd (let z : _≡_ {A = ℕ} 0 1 = cc in omega arith)
+  jump-out (LdIdx d b x sh w signed) e = absurd (let z : _≡_ {A = ℕ} 0 1 = cc in omega arith)
+  jump-out (StIdx s b x sh w) e = absurd (let z : _≡_ {A = ℕ} 0 1 = cc in omega arith)
+  jump-out (LdPost d b w signed inc) e = absurd (let z : _≡_ {A = ℕ} 0 1 = cc in omega arith)
+  jump-out (StPost s b w inc) e = absurd (let z : _≡_ {A = ℕ} 0 1 = cc in omega arith)
+  jump-out (Rmw b w op o v) e = absurd (let z : _≡_ {A = ℕ} 0 1 = cc in omega arith)
+  jump-out PushRet e = absurd (let z : _≡_ {A = ℕ} 0 1 = cc in omega arith)
+  jump-out PopRets e = absurd (let z : _≡_ {A = ℕ} 0 1 = cc in omega arith)
+  jump-out (BrI a v q target) e = fork-out (holds q (reg c a) v) i next target c
+  jump-out (BrR a b q target) e = fork-out (holds q (reg c a) (reg c b)) i next target c
+  jump-out (DecBr r q v target) e = fork-out (holds q (minus (reg c r) 1) v) i next target (setReg r (minus (reg c r) 1) c)
+  jump-out (BitBr r mk ne mv target) e = fork-out (holds (cond ne Ne Eq) (bitAnd (reg c r) (rhs c mk mv)) 0) i next target c
+  jump-out (Goto target) e = tt
+  jump-out (Call target) e = tt
+  jump-out Rts e = tt
+  jump-out (GotoR r) e = tt
+  jump-out (CallR r) e = tt
+  jump-out PopRet e = popped-out (loadCard m flash i B32 false (c .sp) c) i
+
+jump-leaves : (b : Block) (flash : List ℕ) (o : BOp) (i next : ℕ) (c d : Card) → mayJump (o .fast) ≡ true → checked o i next (opStep (b .memory) flash i next (o .fast) c) ≡ on d → ⊥
+unfolding Gone
+jump-leaves b flash o i next c d u e = by (opStep (b .memory) flash i next (o .fast) c) (jump-out (b .memory) flash i next c (o .fast) u) e
+  where
+    by : (r : After) → Gone r → checked o i next r ≡ on d → ⊥
+    by (on c₁) h e₁ = h
+    by (out w c₁) h e₁ = let z : _≡_ {A = ℕ} 0 1 = cc in omega arith
+    by starved h e₁ = let z : _≡_ {A = ℕ} 0 1 = cc in omega arith
+
+-- ---- the operations
+module _ {b : Block} {h : Helpers} {s0 : State} (B : Body b h s0) (C : Checked b) (base : ℕ) where
+  abbrev flash : List ℕ
+  flash = bytesOf (s0 .mem) xip
+
+  abbrev lim : ℕ
+  lim = R W s0 27
+
+  -- the address of the site that a way out leads by
+  abbrev pub siteAt : Way → List ℕ → ℕ
+  siteAt w ss = (base + 4 * getD ss (siteOf w) 0) % 2 ^ 64
+
+  -- code from position p on leaves so
+  abbrev pub Leaving : RegCache → List Step → (p : ℕ) → State → Way → Card → Type 0
+  Leaving rc ss p s w d = Leaves b s0 w d (siteAt w (starts (stepsCode b rc ss) p)) (does (arm h base) (stepsCode b rc ss) p s)
+
+  -- steps that go on, before steps that leave
+  leave-on : (rc : RegCache) (a a₁ : Abs) (xs ys : List Step) (w : Way) (d : Card) → Met h base b s0 rc a (stepsCode b rc xs) (cacheAfter rc xs) (go a₁)
+      → ((p : ℕ) (s : State) → Sim b s0 (cacheAfter rc xs) a₁ s → Leaving (cacheAfter rc xs) ys p s w d)
+      → (p : ℕ) (s : State) → Sim b s0 rc a s → Leaving rc (xs ++ ys) p s w d
+  leave-on rc a a₁ xs ys w d x k p s i =
+      let (s₁, e, j) = x .meets .runs p s i in
+      let q : ℕ = p + words (stepsCode b rc xs) in
+      let z : starts (stepsCode b rc (xs ++ ys)) p ≡ starts (stepsCode b (cacheAfter rc xs) ys) q = starts-append b rc xs ys p ∙ ap (λ ss. ss ++ starts (stepsCode b (cacheAfter rc xs) ys) q) (x .sited p) in
+      let o : does (arm h base) (stepsCode b rc (xs ++ ys)) p s ≡ does (arm h base) (stepsCode b (cacheAfter rc xs) ys) q s₁ = does-append b (arm h base) rc xs ys p s ∙ ap (λ u. andThen u (λ s₂. does (arm h base) (stepsCode b (cacheAfter rc xs) ys) q s₂)) e in
+      subst (λ ss. Leaves b s0 w d ((base + 4 * getD ss (siteOf w) 0) % 2 ^ 64) (does (arm h base) (stepsCode b rc (xs ++ ys)) p s)) (sym z)
+      (subst (λ u. Leaves b s0 w d ((base + 4 * getD (starts (stepsCode b (cacheAfter rc xs) ys) q) (siteOf w) 0) % 2 ^ 64) u) (sym o) (k q s₁ j))
+
+  -- steps that leave, before any others
+  leave-out : (rc : RegCache) (a : Abs) (xs ys : List Step) (w : Way) (d : Card) → Met h base b s0 rc a (stepsCode b rc xs) (cacheAfter rc xs) (off w d)
+      → (p : ℕ) (s : State) → Sim b s0 rc a s → Leaving rc (xs ++ ys) p s w d
+  leave-out rc a xs ys w d x p s i =
+      let q : ℕ = p + words (stepsCode b rc xs) in
+      let ss : List ℕ = starts (stepsCode b rc xs) p in
+      let ts : List ℕ = starts (stepsCode b (cacheAfter rc xs) ys) q in
+      subst (λ l. Leaves b s0 w d ((base + 4 * getD l (siteOf w) 0) % 2 ^ 64) (does (arm h base) (stepsCode b rc (xs ++ ys)) p s)) (sym (starts-append b rc xs ys p))
+      (subst (λ u. Leaves b s0 w d ((base + 4 * getD (ss ++ ts) (siteOf w) 0) % 2 ^ 64) u) (sym (does-append b (arm h base) rc xs ys p s))
+      (leaves-as b s0 w d ((base + 4 * getD ss (siteOf w) 0) % 2 ^ 64) ((base + 4 * getD (ss ++ ts) (siteOf w) 0) % 2 ^ 64) (andThen (does (arm h base) (stepsCode b rc xs) p s) (λ s₁. does (arm h base) (stepsCode b (cacheAfter rc xs) ys) q s₁))
+      (front-same base w d ss ts (x .sited p))
+      (leaves-front b s0 w d ((base + 4 * getD ss (siteOf w) 0) % 2 ^ 64) (does (arm h base) (stepsCode b rc xs) p s) (λ s₁. does (arm h base) (stepsCode b (cacheAfter rc xs) ys) q s₁) (x .meets .leaves p s i))))
+
+  -- off the end of the block
+  end-leaves : (i pc : ℕ) → i < 4096 → pc < 2 ^ 32 → (rc : RegCache) (a : Abs) (p : ℕ) (s : State) → Sim b s0 rc a s → Leaving rc (Step.chain pc i ∷ []) p s (chains 0) (arrive pc i (a .c))
+  unfolding mrun mstep StepFits
+  end-leaves i pc hi hp rc a p s j = steps-met B C base (Step.chain pc i ∷ []) ((hp, hi), tt) (tt, tt) rc a .meets .leaves p s j
+
+  tail-jumps : (o : BOp) (os : List BOp) → NoneAfterJump (o ∷ os) → NoneAfterJump os
+  tail-jumps o [] h = tt
+  tail-jumps o (q ∷ os) h = h .1
+
+  abbrev m : Memory
+  m = b .memory
+
+  ops-leave : (os : List BOp) (i pc : ℕ) → OpsFit os → NoneAfterJump os → i + length os ≤ 32 → pc < 2 ^ 32 → (rc : RegCache) (a : Abs) (w : Way) (d : Card) → opsFrom m flash i pc os (a .c) ≡ leaves w d
+      → (p : ℕ) (s : State) → Sim b s0 rc a s → Leaving rc (opsSteps i pc os) p s w d
+  unfolding opsFrom opsSteps
+  ops-leave [] i pc f n l hp rc a w d e p s j =
+      let ew : chains 0 ≡ w = cc in
+      let ed : arrive pc i (a .c) ≡ d = cc in
+      subst (λ v. Leaving rc (Step.chain pc i ∷ []) p s v d) ew
+      (subst (λ c. Leaving rc (Step.chain pc i ∷ []) p s (chains 0) c) ed (end-leaves i pc (omega arith) hp rc a p s j))
+  ops-leave (o ∷ os) i pc f n l hp rc a w d e p s j =
+      let next : ℕ = behind pc o in
+      let hn : next < 2 ^ 32 = mod-lt (pc + o .len) (omega arith) in
+      by (checked o i next (opStep m flash i next (o .fast) (a .c))) (mrun b flash lim (opSteps o i next) a) refl
+      (op-agrees b flash lim i next a (j .kept .small) o (f .0))
+      (steps-met B C base (opSteps o i next) (op-fits i next (omega arith) hn o (f .0)) (op-known o i next) rc a) e
+      (λ a₁ d₁ e₁ q t j₁. ops-leave os (i + 1) next (f .1) (tail-jumps o os n) (omega arith) hn (cacheAfter rc (opSteps o i next)) a₁ w d₁ e₁ q t j₁)
+    where
+      rest : List Step
+      rest = pick (mayJump (o .fast)) [] (opsSteps (i + 1) (behind pc o) os)
+
+      by : (r : After) (t : Then) → checked o i (behind pc o) (opStep m flash i (behind pc o) (o .fast) (a .c)) ≡ r → Agrees r t
+          → Met h base b s0 rc a (stepsCode b rc (opSteps o i (behind pc o))) (cacheAfter rc (opSteps o i (behind pc o))) t
+          → thenCard r (arrive pc i (a .c)) (λ c₁. opsFrom m flash (suc i) (behind pc o) os c₁) ≡ leaves w d
+          → ((a₁ : Abs) (d₁ : Card) → opsFrom m flash (i + 1) (behind pc o) os (a₁ .c) ≡ leaves w d₁ → (q : ℕ) (u : State) → Sim b s0 (cacheAfter rc (opSteps o i (behind pc o))) a₁ u → Leaving (cacheAfter rc (opSteps o i (behind pc o))) (opsSteps (i + 1) (behind pc o) os) q u w d₁)
+          → Leaving rc (opSteps o i (behind pc o) ++ rest) p s w d
+      by (on c) (go a₁) er ag x ec k = on-case (mayJump (o .fast)) refl
+        where
+          on-case : (u : Bool) → mayJump (o .fast) ≡ u → Leaving rc (opSteps o i (behind pc o) ++ pick u [] (opsSteps (i + 1) (behind pc o) os)) p s w d
+          on-case true eu = absurd (jump-leaves b flash o i (behind pc o) (a .c) c eu er)
+          on-case false eu =
+              leave-on rc a a₁ (opSteps o i (behind pc o)) (opsSteps (i + 1) (behind pc o) os) w d x
+              (λ q u ju. k a₁ d (subst (λ c₂. opsFrom m flash (i + 1) (behind pc o) os c₂ ≡ leaves w d) (sym ag) (subst (λ n₁. opsFrom m flash n₁ (behind pc o) os c ≡ leaves w d) (sym (add-one i)) ec)) q u ju) p s j
+      by (on c) (off v e₂) er ag x ec k = absurd ag
+      by (on c) void er ag x ec k = absurd ag
+      by (out v c) (go a₁) er ag x ec k = absurd ag
+      by (out v c) (off v₁ c₁) er ag x ec k =
+          let ew : v₁ ≡ w = ag .0 ∙ (cc) in
+          let ed : c₁ ≡ d = ag .1 ∙ (cc) in
+          subst (λ y. Leaving rc (opSteps o i (behind pc o) ++ rest) p s y d) ew
+          (subst (λ y. Leaving rc (opSteps o i (behind pc o) ++ rest) p s v₁ y) ed (leave-out rc a (opSteps o i (behind pc o)) rest v₁ c₁ x p s j))
+      by (out v c) void er ag x ec k = absurd ag
+      by starved t er ag x ec k = absurd (let z : _≡_ {A = ℕ} 0 1 = cc in omega arith)
+
+  -- ---- the block behind its opening words
+  ops-count : length (opsOf b) ≡ b .n
+  ops-count = length-take (b .n) (b .ops) ∙ min-eq-left (omega (arith, C .size, C .count))
+
+  -- the test of the limit alone
+  limit-met : (rc : RegCache) (a : Abs) → a .c .done + b .n < 2 ^ 32 → Met h base b s0 rc a (stepsCode b rc (Step.limit (b .pc0) (b .n) ∷ [])) (cacheAfter rc (Step.limit (b .pc0) (b .n) ∷ [])) (thenAbs (mstep b flash lim (Step.limit (b .pc0) (b .n)) a) (λ a₁. go a₁))
+  unfolding stepsCode cacheAfter starts StepFits
+  limit-met rc a k =
+      met-then (mstep b flash lim (Step.limit (b .pc0) (b .n)) a) (λ a₁. go a₁)
+      (step-met B C base rc a (Step.limit (b .pc0) (b .n)) (omega (arith, C .pc0-to), omega (arith, C .count)) k) (λ a₁. record { meets = frag-nil; sited = λ p. refl })
+
+  limit-cases : (rc : RegCache) (a : Abs) → Met h base b s0 rc a (stepsCode b rc (Step.limit (b .pc0) (b .n) ∷ [])) (cacheAfter rc (Step.limit (b .pc0) (b .n) ∷ [])) (thenAbs (mstep b flash lim (Step.limit (b .pc0) (b .n)) a) (λ a₁. go a₁))
+      → Met h base b s0 rc a (stepsCode b rc (Step.limit (b .pc0) (b .n) ∷ [])) (cacheAfter rc (Step.limit (b .pc0) (b .n) ∷ []))
+      (cond (ltb lim (a .c .done + b .n)) (off exits (arrive (b .pc0) 0 (a .c))) (go (record { c = a .c; t = upd (a .t) 9 none; f = none })))
+  unfolding mstep
+  limit-cases rc a x = subst (λ r. Met h base b s0 rc a (stepsCode b rc (Step.limit (b .pc0) (b .n) ∷ [])) (cacheAfter rc (Step.limit (b .pc0) (b .n) ∷ [])) r) (by (ltb lim (a .c .done + b .n))) x
+    where
+      by : (u : Bool) → thenAbs (cond u (off exits (arrive (b .pc0) 0 (a .c))) (go (record { c = a .c; t = upd (a .t) 9 none; f = none }))) (λ a₁. go a₁) ≡ cond u (off exits (arrive (b .pc0) 0 (a .c))) (go (record { c = a .c; t = upd (a .t) 9 none; f = none }))
+      by true = refl
+      by false = refl
+
+  pub body-leaves : (a : Abs) (w : Way) (d : Card) → a .c .done + b .n < 2 ^ 32 → runCard b flash lim (a .c) ≡ leaves w d → (p : ℕ) (s : State) → Sim b s0 emptyCache a s → Leaving emptyCache (blockSteps b) p s w d
+  unfolding runCard blockSteps
+  body-leaves a w d k e p s j = by (ltb lim (a .c .done + b .n)) (subst (λ n. cond (ltb lim (a .c .done + n)) (leaves exits (arrive (b .pc0) 0 (a .c))) (opsFrom m flash 0 (b .pc0) (opsOf b) (a .c)) ≡ leaves w d) ops-count e) (limit-is (limit-met emptyCache a k))
+    where
+      first-step : List Step
+      first-step = Step.limit (b .pc0) (b .n) ∷ []
+
+      after : Abs
+      after = record { c = a .c; t = upd (a .t) 9 none; f = none }
+
+      Limited : Bool → Type 0
+      Limited u = Met h base b s0 emptyCache a (stepsCode b emptyCache first-step) (cacheAfter emptyCache first-step) (cond u (off exits (arrive (b .pc0) 0 (a .c))) (go after))
+
+      limit-is : Met h base b s0 emptyCache a (stepsCode b emptyCache first-step) (cacheAfter emptyCache first-step) (thenAbs (mstep b flash lim (Step.limit (b .pc0) (b .n)) a) (λ a₁. go a₁)) → Limited (ltb lim (a .c .done + b .n))
+      limit-is x = limit-cases emptyCache a x
+
+      by : (u : Bool) → cond u (leaves exits (arrive (b .pc0) 0 (a .c))) (opsFrom m flash 0 (b .pc0) (opsOf b) (a .c)) ≡ leaves w d → Limited u → Leaving emptyCache (first-step ++ opsSteps 0 (b .pc0) (opsOf b)) p s w d
+      by true e₁ x =
+          let ew : exits ≡ w = cc in
+          let ed : arrive (b .pc0) 0 (a .c) ≡ d = cc in
+          subst (λ y. Leaving emptyCache (first-step ++ opsSteps 0 (b .pc0) (opsOf b)) p s y d) ew
+          (subst (λ y. Leaving emptyCache (first-step ++ opsSteps 0 (b .pc0) (opsOf b)) p s exits y) ed (leave-out emptyCache a first-step (opsSteps 0 (b .pc0) (opsOf b)) exits (arrive (b .pc0) 0 (a .c)) x p s j))
+      by false e₁ x =
+          leave-on emptyCache a after first-step (opsSteps 0 (b .pc0) (opsOf b)) w d x
+          (λ q u ju. ops-leave (opsOf b) 0 (b .pc0) (C .ops) (C .last-jumps) (omega (arith, ops-count, C .count)) (omega (arith, C .pc0-to)) (cacheAfter emptyCache first-step) after w d e₁ q u ju) p s j
