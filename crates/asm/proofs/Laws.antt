@@ -1,7 +1,7 @@
 -- Laws for contracts: items one after the other, and each way to build structured code as the code emits it.
 use mathlib.Core.Path.{_≡_, refl, sym, ap, _∙_}
 use mathlib.Core.List.{List, [], _∷_, _++_, map}
-use Prim.Native.Nat.{ℕ, suc, _+_, _≤_, _<_}
+use Prim.Native.Nat.{ℕ, suc, _+_, _≤_}
 use native.Mathlib.Omega.{arith}
 use mathlib.Core.Bool.{Bool, true, false}
 use lib.Dec.{ltb}
@@ -9,7 +9,6 @@ use lib.IntN.{pos}
 use lib.ListN.{set, length}
 use Rattle.arm.specs.declared.Instr.{Instr}
 use Rattle.arm.specs.Instr.{encode}
-use borrow.Author.Tests.{lt-ltb}
 use Rattle.code.specs.Items.{size, pick, index, Hole, adr, ldr, fill, label, literal, Item, ins, go, new, bind}
 use Rattle.code.specs.Emit.{kind}
 use Rattle.code.specs.Tree.{Depth, top, under, Var, Code, code, lit, to, exit, block, start, _then_, inside, words, labels, items, nowhere, wholeItems}
@@ -69,10 +68,10 @@ keep-case P i v s a b = by (ltb i (kept s)) (ltb (kept s) literalRoom)
     by false true = b
     by false false = a
 
-keep-labels : (i v : ℕ) (s : State) → keepAt i v s .asm .labels ≡ s .asm .labels
+pub keep-labels : (i v : ℕ) (s : State) → keepAt i v s .asm .labels ≡ s .asm .labels
 keep-labels i v s = keep-case (λ t. t .asm .labels ≡ s .asm .labels) i v s refl refl
 
-keep-at : (i v : ℕ) (s : State) → keepAt i v s .asm .at ≡ s .asm .at
+pub keep-at : (i v : ℕ) (s : State) → keepAt i v s .asm .at ≡ s .asm .at
 keep-at i v s = keep-case (λ t. t .asm .at ≡ s .asm .at) i v s refl refl
 
 pub made-is : {n : Depth} (c : Code n) (e : Var n → ℕ) (x l : ℕ) (s : State) → s .asm .labels ≡ l → run (calls c e x l) s .asm .labels ≡ nextL c l
@@ -153,23 +152,8 @@ module _ {n : Depth} (e : Var n → ℕ) (x : ℕ) (ws t : List ℕ) (a : Asm) (
       start-after e x rd c (state ws t a) (state ws t (m .a)) s₂ s₃ s₄ made-put
       (p ∙ ap (λ l. put (bind l) (state ws t (m .a))) made-label) r (u ∙ ap (λ l. put (go (adr rd) (label l)) s₃) made-label)
 
--- ---- THE POSITION BEHIND STRUCTURED CODE, for the sites: as many words further
-bump : (n : ℕ) → n < 1048576 → bumped n ≡ suc n
-unfolding bumped
-bump n h = rw (lt-ltb n 1048576 h)
-
-pub at-run : (is : List Item) (s : State) → s .asm .at + size is ≤ 1048576 → run is s .asm .at ≡ s .asm .at + size is
-unfolding run put word fixed made size
-at-run [] s h = omega arith
-at-run (ins i ∷ is) s h = at-run is (put (ins i) s) (omega (arith, bump (s .asm .at) (omega arith))) ∙ omega (arith, bump (s .asm .at) (omega arith))
-at-run (go g (label l) ∷ is) s h = at-run is (put (go g (label l)) s) (omega (arith, bump (s .asm .at) (omega arith))) ∙ omega (arith, bump (s .asm .at) (omega arith))
-at-run (go g (literal v) ∷ is) s h =
-    let e : put (go g (literal v)) s .asm .at ≡ suc (s .asm .at) = ap bumped (keep-at (index v (held s)) v s) ∙ bump (s .asm .at) (omega arith) in
-    at-run is (put (go g (literal v)) s) (omega (arith, e)) ∙ omega (arith, e)
-at-run (new ∷ is) s h = at-run is (put new s) h
-at-run (bind l ∷ is) s h = at-run is (put (bind l) s) h
-
-calls-size : {n : Depth} (c : Code n) (e : Var n → ℕ) (x l : ℕ) → size (calls c e x l) ≡ words c
+-- ---- as many words as the code has
+pub calls-size : {n : Depth} (c : Code n) (e : Var n → ℕ) (x l : ℕ) → size (calls c e x l) ≡ words c
 unfolding size calls words
 calls-size (code is) e x l = ins-size is
   where
@@ -182,9 +166,3 @@ calls-size (exit h) e x l = refl
 calls-size (block c) e x l = size-append (calls c (inside l e) x (bumped l)) (bind l ∷ []) ∙ omega (arith, calls-size c (inside l e) x (bumped l))
 calls-size (start rd c) e x l = size-append (calls c e x (bumped l)) (go (adr rd) (label l) ∷ []) ∙ omega (arith, calls-size c e x (bumped l))
 calls-size (c then d) e x l = size-append (calls c e x l) (calls d e x (nextL c l)) ∙ omega (arith, calls-size c e x l, calls-size d e x (nextL c l))
-
-pub at-after : {n : Depth} (c : Code n) (e : Var n → ℕ) (x : ℕ) (s : State) → s .asm .at + words c ≤ 1048576 → after c e x s .asm .at ≡ s .asm .at + words c
-unfolding after
-at-after c e x s h =
-    let q : size (calls c e x (s .asm .labels)) ≡ words c = calls-size c e x (s .asm .labels) in
-    at-run (calls c e x (s .asm .labels)) s (omega (arith, q)) ∙ omega (arith, q)

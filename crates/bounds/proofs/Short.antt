@@ -13,13 +13,12 @@ use Rattle.block.specs.declared.Layout.{Layout}
 use Rattle.block.specs.declared.Block.{Block}
 use Rattle.block.specs.Block.{bytes}
 use Rattle.code.specs.Items.{pick}
-use Rattle.code.specs.Tree.{Depth, top, under, Var, inner, outer, Code, words, labels, Tests, TestNear}
+use Rattle.code.specs.Tree.{Depth, top, under, Var, inner, outer, Code, words, labels, jumps, Tests, TestNear}
 use Rattle.lowering.specs.declared.RegCache.{RegCache}
 use Rattle.lowering.specs.Instrs.{CPU, mov32, ldr, str}
 use Rattle.lowering.specs.Cache.{POOL, host, FREE, offReg, oldest, isHeld, chosen, spill, ldReg, stReg, flushFrom, flush, reloadFrom, reload}
 use Rattle.lowering.specs.Steps.{Step}
 use Rattle.lowering.specs.Fragments.{minus, addImm, brkFirst, even, tryRegion, extended, oddTest, mapTest, call, exitImm, chain, ind, hold, checkBrk, fork, limit, load, store, stepCode, stepCache, stepsCode}
-use Rattle.bounds.specs.Sound.{jumps}
 
 -- ---- the lists of instructions
 pick-short : (x : Bool) (is js : List Instr) (k : ℕ) → length is ≤ k → length js ≤ k → length (pick x is js) ≤ k

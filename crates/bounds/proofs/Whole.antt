@@ -8,14 +8,13 @@ use Rattle.arm.specs.declared.Instr.{Instr}
 use Rattle.block.specs.declared.Block.{Block}
 use Rattle.block.specs.Checked.{Checked}
 use Rattle.code.specs.Items.{Sound, listing, size, poolOf}
-use Rattle.code.specs.Tree.{top, Code, code, _then_, nowhere, words, labels, wholeItems, wholeLines, poolIn, Tests, Fine}
+use Rattle.code.specs.Tree.{top, Code, code, _then_, nowhere, words, labels, jumps, wholeItems, wholeLines, poolIn, Tests, Fine}
 use Rattle.code.proofs.Tree.{whole-once, whole-met, whole-size, whole-pool, whole-length, listing-instrs, listing-lines}
 use Rattle.code.proofs.Reach.{whole-reach, whole-sound}
 use Rattle.lowering.specs.Cache.{emptyCache}
 use Rattle.lowering.specs.Steps.{blockSteps}
 use Rattle.lowering.specs.Fragments.{stepsCode, opening, closing}
 use Rattle.lowering.specs.Compile.{blockCode, blockLines, blockWords}
-use Rattle.bounds.specs.Sound.{jumps}
 use Rattle.bounds.specs.Whole.{Tables, Carries, Emitted}
 use Rattle.bounds.proofs.Fine.{empty-fits}
 use Rattle.bounds.proofs.Fragments.{steps-fine, opening-sound, closing-sound}

@@ -1,9 +1,8 @@
 -- What a step's numbers are, so that every instruction of its code fits its word.
 use mathlib.Core.List.{List, [], _∷_}
-use Prim.Native.Nat.{ℕ, suc, _+_, _<_}
+use Prim.Native.Nat.{ℕ, _<_}
 use lib.Dec.{T, ltb}
 use Rattle.arm.specs.Decode.{carried}
-use Rattle.code.specs.Tree.{Depth, Code, code, lit, to, exit, block, start, _then_}
 use Rattle.lowering.specs.Steps.{Step}
 
 abbrev pub Host : ℕ → Type 0
@@ -34,13 +33,3 @@ StepFits (Step.limit pc count) = Number pc × Count count
 abbrev pub AllFit : List Step → Type 0
 AllFit [] = Unit {0}
 AllFit (s ∷ ss) = StepFits s × AllFit ss
-
--- the jumps, address loads and literals' loads of a code: each has a fix-up
-unfoldable pub jumps : {n : Depth} → Code n → ℕ
-jumps (code is) = 0
-jumps (lit rt v) = 1
-jumps (to h v) = 1
-jumps (exit h) = 1
-jumps (block c) = jumps c
-jumps (start rd c) = suc (jumps c)
-jumps (c then d) = jumps c + jumps d

@@ -8,11 +8,10 @@ use Rattle.arm.specs.declared.Instr.{Instr}
 use Rattle.arm.specs.Instr.{encode}
 use Rattle.block.specs.declared.Block.{Block}
 use Rattle.code.specs.Items.{Item, Sound, Once, Met, Reach, placesOf, resolve, padOf, poolOf, halves, size}
-use Rattle.code.specs.Tree.{top, Code, nowhere, words, labels, wholeItems, wholeLines, poolIn, Tests, Fine}
+use Rattle.code.specs.Tree.{top, Code, nowhere, words, labels, jumps, wholeItems, wholeLines, poolIn, Tests, Fine}
 use Rattle.lowering.specs.Fragments.{closing}
 use Rattle.lowering.specs.Steps.{blockSteps}
 use Rattle.lowering.specs.Compile.{blockCode, blockLines, blockWords, starts, targets}
-use Rattle.bounds.specs.Sound.{jumps}
 
 -- the tables: "the number of words, labels, fix-ups and literals of any block"
 pub record Tables (blk : Block) : Type 0 where

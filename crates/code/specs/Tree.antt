@@ -79,6 +79,16 @@ labels (block c) = suc (labels c)
 labels (start rd c) = suc (labels c)
 labels (c then d) = labels c + labels d
 
+-- the jumps, the addresses taken and the literals' loads: words with a distance
+unfoldable pub jumps : {n : Depth} → Code n → ℕ
+jumps (code is) = 0
+jumps (lit rt v) = 1
+jumps (to h v) = 1
+jumps (exit h) = 1
+jumps (block c) = jumps c
+jumps (start rd c) = suc (jumps c)
+jumps (c then d) = jumps c + jumps d
+
 unfoldable pub after : {n : Depth} → Code n → ℕ → ℕ
 after (code is) l = l
 after (lit rt v) l = l

@@ -18,7 +18,7 @@ use Rattle.card.specs.Card.{Card, reg}
 use Rattle.card.specs.Step.{Way, exits, chains, looksUp}
 use Rattle.card.specs.Run.{End}
 use Rattle.card.specs.Run.{left as leaves, run as runCard}
-use Rattle.lowering.specs.Compile.{blockWords, Site, sites}
+use Rattle.lowering.specs.Compile.{blockWords, sites}
 use Rattle.block.specs.Checked.{Checked}
 use Rattle.demand.specs.Outside.{allArm}
 use Rattle.demand.specs.Premises.{Entry, first, body, Premises}

@@ -81,14 +81,15 @@ abbrev pub AllFit : State → List Outcome → Type 0
 AllFit s [] = Unit {0}
 AllFit s (o ∷ os) = OutcomeFits s o × AllFit s os
 
-pub record Premises (b : Block) (h : Helpers) (entry : Entry) (limit : ℕ) (c : Card) (s : State) : Type 0 where
+-- for a run of these words
+pub record PremisesOn (ws : List ℕ) (b : Block) (h : Helpers) (entry : Entry) (limit : ℕ) (c : Card) (s : State) : Type 0 where
   -- the machine has 31 general registers, eight regions and has counted nothing; sp is a 64-bit number
   pub registers : length (s .x) ≡ 31
   pub regions : length (s .mem) ≡ 8
   pub count : s .count ≡ 0
   pub sp-lt : s .sp < 2 ^ 64
   -- "its words as they were written"
-  pub words : bytesOf (s .mem) code ≡ bytesOfWords (blockWords b)
+  pub words : bytesOf (s .mem) code ≡ bytesOfWords ws
   -- "given .. the same start": the card's state stands in the machine's memory
   pub sixteen : length (c .regs) ≡ 16
   pub held : Held (b .layout) c (bytesOf (s .mem) processor)
@@ -127,3 +128,7 @@ pub record Premises (b : Block) (h : Helpers) (entry : Entry) (limit : ℕ) (c :
   -- "The jump table has 16,384 entries of 16 bytes"
   pub table-size : sizeOf (s .mem) table ≡ 16384 * 16
   pub table-at : baseOf (s .mem) table ≡ b .addresses .table
+
+-- for a run of the block's
+abbrev pub Premises : Block → Helpers → Entry → (limit : ℕ) → Card → State → Type 0
+Premises b h entry limit c s = PremisesOn (blockWords b) b h entry limit c s

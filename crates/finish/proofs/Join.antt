@@ -12,14 +12,14 @@ use Rattle.arm.specs.declared.Instr.{Instr}
 use Rattle.code.specs.Items.{pick, adr, label, literal, Item, ins, go, new, bind, size, binds, add, poolOf, halves, padOf, baseOf, placesOf, Below}
 use Rattle.code.specs.Emit.{kind, Goal, Fixup, St, lead, patched, patchAll, lay}
 use Rattle.code.specs.Emit.{run as runE, start as startE, finish as finishE}
-use Rattle.code.specs.Tree.{Depth, top, Var, Code, code, lit, to, exit, block, start, _then_, inside, words, labels, after, items, nowhere, wholeItems, wholeLines, poolIn, linesWords}
+use Rattle.code.specs.Tree.{Depth, top, Var, Code, code, lit, to, exit, block, start, _then_, inside, words, labels, jumps, after, items, nowhere, wholeItems, wholeLines, poolIn, linesWords}
 use Rattle.code.proofs.Emit.{raw-size, tableOf, fixesOf, run-words, run-labels, run-pool, run-fixes, placed-is, table-placed}
 use Rattle.code.proofs.Tree.{whole-once, whole-met, whole-below, whole-size, whole-pool, whole-length}
 use Rattle.code.proofs.Order.{lay-put, lay-length, finish-lent}
 use Rattle.code.proofs.Reach.{whole-reach, emitted}
 use Rattle.asm.specs.State.{labelRoom, fixupRoom, tableRoom, State, state, begin, atMost, held, run}
 use Rattle.finish.specs.Finish.{patchedTo, write, zeros, written, needed, finished, finishedWords}
-use Rattle.finish.specs.Whole.{laid, told, jumps, Held}
+use Rattle.finish.specs.Whole.{laid, told, Held}
 use Rattle.finish.specs.declared.Finished.the-variants.{Words, Short}
 use Rattle.finish.proofs.Cases.{halves-length}
 use Rattle.finish.proofs.Track.{Tracks, kept-is, held-is, news, goes, Roomy, tracks-run}

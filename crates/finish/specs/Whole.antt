@@ -1,12 +1,12 @@
 -- A whole block's words in the lent room, and what is told of them.
 use mathlib.Core.List.{List, []}
-use Prim.Native.Nat.{ℕ, suc, _+_, _*_, _^_, _<_, _≤_}
+use Prim.Native.Nat.{ℕ, _+_, _*_, _^_, _<_, _≤_}
 use lib.Dec.{ltb}
 use lib.ListN.{length}
 use Rattle.arm.specs.declared.Instr.{Instr}
 use Rattle.code.specs.Items.{pick, Sound}
 use Rattle.code.specs.Emit.{lay}
-use Rattle.code.specs.Tree.{Depth, top, Code, code, lit, to, exit, block, start, _then_, labels, nowhere, wholeLines, poolIn, Tests, Fine}
+use Rattle.code.specs.Tree.{top, Code, labels, jumps, nowhere, wholeLines, poolIn, Tests, Fine}
 use Rattle.finish.specs.Finish.{zeros}
 use Rattle.finish.specs.declared.Finished.{Finished}
 use Rattle.asm.specs.State.{labelRoom, literalRoom, fixupRoom}
@@ -18,16 +18,6 @@ laid ws lent = pick (ltb (length lent) (length ws)) (zeros lent) (lay ws lent)
 
 unfoldable pub told : List ℕ → List ℕ → Finished
 told ws lent = pick (ltb (length lent) (length ws)) (Short (length ws)) (Words (length ws))
-
--- how many words have a distance
-unfoldable pub jumps : {n : Depth} → Code n → ℕ
-jumps (code is) = 0
-jumps (lit rt v) = 1
-jumps (to h v) = 1
-jumps (exit h) = 1
-jumps (block c) = jumps c
-jumps (start rd c) = suc (jumps c)
-jumps (c then d) = jumps c + jumps d
 
 -- a block that the tables hold, that words carry, and in which each jump reaches
 pub record Held (c : Code top) (end : List Instr) : Type 0 where

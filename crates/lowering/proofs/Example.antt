@@ -20,7 +20,7 @@ use Rattle.lowering.specs.Instrs.{mov32}
 use Rattle.lowering.specs.Cache.{position, leastFrom, oldest, chosen, spill, slotFor, seated, ldReg, stReg, stored, flushFrom, flush, reloadFrom, reload}
 use Rattle.lowering.specs.Steps.{lowered, opSteps, opsSteps, blockSteps}
 use Rattle.lowering.specs.Fragments.{addImm, brkFirst, even, loads, tryRegion, extended, oddTest, mapTest, stores, call, exitImm, chain, ind, hold, checkBrk, fork, limit, load, store, stepCode, stepCache, stepsCode, opening, closing}
-use Rattle.lowering.specs.Compile.{Site, blockWords, blockLines, blockCode, sites, starts}
+use Rattle.lowering.specs.Compile.{blockWords, blockLines, blockCode, sites, starts}
 
 abbrev nop : BOp
 nop = record { fast = Nop; len = 0; glue = false }

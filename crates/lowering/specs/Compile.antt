@@ -5,6 +5,7 @@ use lib.ListN.{length}
 use Rattle.arm.specs.declared.Instr.{Instr}
 use Rattle.block.specs.declared.Block.{Block}
 use Rattle.code.specs.Tree.{Depth, top, Code, code, lit, to, exit, block, start, _then_, words, Line, wholeLines, linesWords}
+use Rattle.lowering.specs.declared.Site.{Site}
 use Rattle.lowering.specs.Cache.{emptyCache}
 use Rattle.lowering.specs.Steps.{Step, blockSteps}
 use Rattle.lowering.specs.Fragments.{stepsCode, opening, closing}
@@ -26,10 +27,6 @@ unfolding opening
 bodyOffset = 4 * length opening
 
 -- ---- chain sites
-pub record Site : Type 0 where
-  pub at : ℕ  -- word position
-  pub target : ℕ  -- guest address
-
 -- the positions of words whose address is taken, from position p on
 unfoldable pub starts : {n : Depth} → Code n → (p : ℕ) → List ℕ
 starts (code is) p = []

@@ -3,3 +3,4 @@ pub mod Cache
 pub mod Steps
 pub mod Fragments
 pub mod Compile
+pub mod Given

@@ -1,4 +1,4 @@
-// The lowering's definition: an operation as steps, a step as code. This crate has the register cache's type, and no function.
+// The lowering's definition: an operation as steps, a step as code. This crate has two types, and no function.
 
 // Guest registers kept in host registers within a block, by pool position: the guest register held (16: none), whether memory is
 // behind, and the last use, for choosing which to give up when all are taken.
@@ -7,4 +7,10 @@ pub struct RegCache {
     pub dirty: [bool; 8],
     pub used: [u32; 8],
     pub clock: u32,
+}
+
+// A chain site: its word's position, and the guest address that it goes on at.
+pub struct Site {
+    pub at: u32,
+    pub target: u32,
 }
