@@ -1,9 +1,8 @@
 -- What the lookup's answer says of the definition's choices.
-use mathlib.Core.Path.{_≡_, refl, sym, ap, ap₂, _∙_}
+use mathlib.Core.Path.{_≡_, refl, ap, ap₂}
 use mathlib.Core.Bool.{Bool, true, false}
 use mathlib.Core.List.{List, [], _∷_, _++_}
-use Prim.Native.Nat.{ℕ, _<_, _/_}
-use native.Mathlib.Omega.{arith}
+use Prim.Native.Nat.{ℕ, _<_}
 use lib.ListN.{getD}
 use borrow.Author.Tests.{ltb-true}
 use Rattle.arm.specs.declared.Instr.{Instr}
@@ -12,10 +11,8 @@ use Rattle.code.specs.Items.{pick}
 use Rattle.lowering.specs.declared.RegCache.{RegCache}
 use Rattle.lowering.specs.Instrs.{CPU, mov, ldr, str}
 use Rattle.lowering.specs.Cache.{host, FREE, position, isHeld, offReg, oldest, chosen, spill, slotFor, seated, stored, touch, assign, mark, ldReg, stReg}
-use Rattle.cache.specs.declared.Found.{Found}
 use Rattle.cache.specs.declared.Found.the-variants.{At, Nothing}
-use Rattle.cache.specs.declared.Moved.{Moved}
-use Rattle.cache.specs.Lookup.{lookup, Moves}
+use Rattle.cache.specs.Lookup.{lookup}
 
 at-true : (b : Bool) (p i : ℕ) → At i ≡ pick b (At p) Nothing → (b ≡ true) × (i ≡ p)
 at-true true p i e = (refl, cc)
@@ -100,7 +97,3 @@ module _ (lay : Layout) (rc : RegCache) (i : ℕ) where
   pub clean-spill : Nothing ≡ lookup rc FREE → i ≡ oldest rc → getD (rc .dirty) i false ≡ false → [] ≡ spill lay rc
   unfolding spill
   clean-spill e h d = rw (none-false (isHeld rc FREE) _ e) (rw (← h, d))
-
--- ---- the same move, by equal caches and instructions
-pub moves-by : {rc rc′ : RegCache} {is is′ : List Instr} {m : Moved} → Moves rc is m → rc ≡ rc′ → is ≡ is′ → Moves rc′ is′ m
-moves-by m p q = record { cache = m .cache ∙ p; code = m .code ∙ q }

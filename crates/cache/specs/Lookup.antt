@@ -1,9 +1,7 @@
 -- The code's answers in the definition's terms.
 use mathlib.Core.Path.{_≡_}
-use mathlib.Core.Bool.{Bool, true, false}
 use mathlib.Core.List.{List, [], _∷_}
 use Prim.Native.Nat.{ℕ, _<_}
-use lib.ListN.{take}
 use Rattle.arm.specs.declared.Instr.{Instr}
 use Rattle.block.specs.declared.Layout.{Layout}
 use Rattle.code.specs.Items.{pick}
@@ -13,8 +11,6 @@ use Rattle.cache.specs.declared.Found.{Found}
 use Rattle.cache.specs.declared.Found.the-variants.{At, Nothing}
 use Rattle.cache.specs.declared.Spill.{Spill}
 use Rattle.cache.specs.declared.Spill.the-variants.{Store, Nothing as Free}
-use Rattle.cache.specs.declared.InstrCell.{InstrCell}
-use Rattle.cache.specs.declared.Moved.{Moved}
 use Rattle.cache.specs.declared.Taken.{Taken}
 
 -- a slot or nothing
@@ -30,12 +26,3 @@ pub record Took (lay : Layout) (rc : RegCache) (t : Taken) : Type 0 where
   pub chose : t .i ≡ chosen rc
   pub small : t .i < 8
   pub spills : spilled (t .spill) ≡ spill lay rc
-
-abbrev pub instrsOf : List InstrCell → List Instr
-instrsOf [] = []
-instrsOf (c ∷ cs) = c .instr ∷ instrsOf cs
-
--- the cache behind a move, and its instructions
-pub record Moves (rc : RegCache) (is : List Instr) (m : Moved) : Type 0 where
-  pub cache : m .rc ≡ rc
-  pub code : instrsOf (take (m .n) (m .cells)) ≡ is

@@ -1,12 +1,9 @@
 // The register cache of a block (RegCache in the Rust), by value: eight host registers that hold guest registers.
 ghost use mathlib.Core.Path.{_≡_};
-ghost use mathlib.Core.Bool.{Bool, true, false};
-ghost use mathlib.Core.List.{List, [], _∷_, _++_};
-ghost use Prim.Native.Nat.{ℕ, _+_, _/_, _<_, _≤_};
-ghost use lib.ListN.{length, getD};
-ghost use Rattle.lowering.specs.Cache.{host as hostOf, tick as tickOf, offReg, oldest as oldestOf, chosen, spill, touch as touched, assign as assigned, mark as marked, seated, stored, ldReg, stReg};
-ghost use Rattle.lowering.specs.Instrs.{CPU, mov as movOf, ldr as ldrOf, str as strOf};
-ghost use Rattle.cache.specs.Lookup.{lookup, spilled, Took, Moves};
+ghost use Prim.Native.Nat.{_/_, _<_};
+ghost use Rattle.lowering.specs.Cache.{host as hostOf, offReg, oldest as oldestOf, touch as touched, assign as assigned, mark as marked};
+ghost use Rattle.lowering.specs.Instrs.{CPU, mov as movOf};
+ghost use Rattle.cache.specs.Lookup.{lookup, Took};
 use arm::Access;
 use arm::Instr;
 use arm::Logic;
@@ -33,17 +30,6 @@ pub enum Spill {
 pub struct Taken {
     pub i: usize,
     pub spill: Spill,
-}
-
-pub struct InstrCell {
-    pub instr: Instr,
-}
-
-// The cache behind a move, and the first n of cells, its instructions.
-pub struct Moved {
-    pub rc: RegCache,
-    pub cells: [InstrCell; 3],
-    pub n: u32,
 }
 
 pub fn mov(rd: u32, rm: u32) -> Instr
@@ -116,7 +102,7 @@ pub fn oldest(rc: RegCache) -> usize
 }
 
 // One use more, of slot i.
-fn touch(rc: RegCache, i: usize) -> RegCache
+pub fn touch(rc: RegCache, i: usize) -> RegCache
     requires { ⌜ i < 8 ⌝ }
     ensures { λ q. ⌜ q ≡ touched i rc ⌝ }
 {
@@ -128,7 +114,7 @@ fn touch(rc: RegCache, i: usize) -> RegCache
 }
 
 // Slot i holds guest register r, unchanged.
-fn assign(rc: RegCache, i: usize, r: u8) -> RegCache
+pub fn assign(rc: RegCache, i: usize, r: u8) -> RegCache
     requires { ⌜ i < 8 ⌝ }
     ensures { λ q. ⌜ q ≡ assigned i r rc ⌝ }
 {
@@ -142,7 +128,7 @@ fn assign(rc: RegCache, i: usize, r: u8) -> RegCache
 }
 
 // Memory is behind slot i.
-fn mark(rc: RegCache, i: usize) -> RegCache
+pub fn mark(rc: RegCache, i: usize) -> RegCache
     requires { ⌜ i < 8 ⌝ }
     ensures { λ q. ⌜ q ≡ marked i rc ⌝ }
 {
@@ -159,7 +145,7 @@ pub fn off_reg(lay: Layout, r: u8) -> u32
 }
 
 // A free slot, else the least recently used, which is stored first if it is dirty.
-fn take_slot(lay: Layout, rc: RegCache) -> Taken
+pub fn take_slot(lay: Layout, rc: RegCache) -> Taken
     ensures { λ q. ⌜ Took lay rc q ⌝ }
 {
     let free = slot(rc, 16);
@@ -179,71 +165,5 @@ fn take_slot(lay: Layout, rc: RegCache) -> Taken
     Taken {
         i,
         spill: Spill::Nothing,
-    }
-}
-
-fn moved1(rc: RegCache, a: Instr) -> Moved
-    ensures { λ q. ⌜ Moves rc (a ∷ []) q ⌝ }
-{
-    let mut cells = [InstrCell { instr: Instr::Nop }; 3];
-    cells[0] = InstrCell { instr: a };
-    Moved { rc, cells, n: 1 }
-}
-
-fn moved2(rc: RegCache, a: Instr, b: Instr) -> Moved
-    ensures { λ q. ⌜ Moves rc (a ∷ b ∷ []) q ⌝ }
-{
-    let mut cells = [InstrCell { instr: Instr::Nop }; 3];
-    cells[0] = InstrCell { instr: a };
-    cells[1] = InstrCell { instr: b };
-    Moved { rc, cells, n: 2 }
-}
-
-fn moved3(rc: RegCache, a: Instr, b: Instr, c: Instr) -> Moved
-    ensures { λ q. ⌜ Moves rc (a ∷ b ∷ c ∷ []) q ⌝ }
-{
-    let mut cells = [InstrCell { instr: Instr::Nop }; 3];
-    cells[0] = InstrCell { instr: a };
-    cells[1] = InstrCell { instr: b };
-    cells[2] = InstrCell { instr: c };
-    Moved { rc, cells, n: 3 }
-}
-
-// w(t) = guest register r
-pub fn ld_reg(lay: Layout, rc: RegCache, t: u32, r: u8) -> Moved
-    ensures { λ q. ⌜ Moves (seated rc r) (ldReg lay rc t r) q ⌝ }
-{
-    let found = slot(rc, r);
-    if let Found::At(i) = found {
-        return moved1(touch(rc, i), mov(t, host(i)));
-    }
-    let taken = take_slot(lay, rc);
-    let i = taken.i;
-    let next = assign(rc, i, r);
-    let fill = ldr(host(i), off_reg(lay, r));
-    let last = mov(t, host(i));
-    let spill = taken.spill;
-    match spill {
-        Spill::Store(s) => moved3(next, s, fill, last),
-        Spill::Nothing => moved2(next, fill, last),
-    }
-}
-
-// guest register r = w(t)
-pub fn st_reg(lay: Layout, rc: RegCache, t: u32, r: u8) -> Moved
-    ensures { λ q. ⌜ Moves (stored rc r) (stReg lay rc t r) q ⌝ }
-{
-    let found = slot(rc, r);
-    if let Found::At(i) = found {
-        return moved1(mark(touch(rc, i), i), mov(host(i), t));
-    }
-    let taken = take_slot(lay, rc);
-    let i = taken.i;
-    let next = mark(assign(rc, i, r), i);
-    let last = mov(host(i), t);
-    let spill = taken.spill;
-    match spill {
-        Spill::Store(s) => moved2(next, s, last),
-        Spill::Nothing => moved1(next, last),
     }
 }

@@ -19,30 +19,30 @@ use Rattle.lowering.specs.Instrs.{CPU, ldr, str}
 use Rattle.lowering.specs.Cache.{POOL, host, FREE, offReg, flushFrom, reloadFrom}
 use Rattle.words.specs.Answers.{answer, wordOf}
 use Rattle.asm.specs.State.{State, word}
-use Rattle.emission.specs.Total.{putT, runT, flushed, reloaded}
+use Rattle.emission.specs.Total.{putT, runT, emitted, flushed, reloaded}
 
 -- ---- one instruction
-pub ins-by : (i : Instr) (w : ℕ) (s s₁ : State) → s₁ ≡ word w s → w ≡ wordOf (answer i) → s₁ ≡ putT (ins i) s
-unfolding putT
+pub ins-by : (i : Instr) (w : ℕ) (s s₁ : State) → s₁ ≡ word w s → w ≡ wordOf (answer i) → s₁ ≡ emitted (i ∷ []) s
+unfolding emitted runT putT
 ins-by i w s s₁ p e = p ∙ ap (λ k. word k s) e
 
 -- ---- one slot
-pub slot-kept : (lay : Layout) (h g : ℕ) (d : Bool) (s : State) → d ≡ false → s ≡ runT (flushed lay h g d) s
-unfolding runT
+pub slot-kept : (lay : Layout) (h g : ℕ) (d : Bool) (s : State) → d ≡ false → s ≡ emitted (flushed lay h g d) s
+unfolding emitted runT
 slot-kept lay h g d s e = rw e
 
-pub slot-free : (lay : Layout) (h g : ℕ) (d : Bool) (s : State) → d ≡ true → g ≡ FREE → s ≡ runT (flushed lay h g d) s
-unfolding runT
+pub slot-free : (lay : Layout) (h g : ℕ) (d : Bool) (s : State) → d ≡ true → g ≡ FREE → s ≡ emitted (flushed lay h g d) s
+unfolding emitted runT
 slot-free lay h g d s e f = rw (e, eq-eqb g FREE f)
 
-pub slot-stored : (lay : Layout) (h g : ℕ) (d : Bool) (s s₁ : State) (i : Instr) (k : ℕ) → d ≡ true → (g ≡ FREE → ⊥) → i ≡ MemoryImm StrW k CPU h → k ≡ offReg lay g / 4 → s₁ ≡ putT (ins i) s → s₁ ≡ runT (flushed lay h g d) s
-unfolding runT
-slot-stored lay h g d s s₁ i k e n f o p = rw (e, ne-eqb g FREE n) (p ∙ ap (λ j. putT (ins j) s) (f ∙ ap (λ j. MemoryImm StrW j CPU h) o))
+pub slot-stored : (lay : Layout) (h g : ℕ) (d : Bool) (s s₁ : State) (i : Instr) (k : ℕ) → d ≡ true → (g ≡ FREE → ⊥) → i ≡ MemoryImm StrW k CPU h → k ≡ offReg lay g / 4 → s₁ ≡ emitted (i ∷ []) s → s₁ ≡ emitted (flushed lay h g d) s
+unfolding emitted runT
+slot-stored lay h g d s s₁ i k e n f o p = rw (e, ne-eqb g FREE n) (p ∙ ap (λ j. emitted (j ∷ []) s) (f ∙ ap (λ j. MemoryImm StrW j CPU h) o))
 
 -- ---- all slots
 run-pick : (lay : Layout) (h g : ℕ) (is : List Instr) (u : Bool) (s : State)
-    → runT (map ins (pick u (str h CPU (offReg lay g) ∷ is) is)) s ≡ runT (map ins is) (runT (pick u (ins (str h CPU (offReg lay g)) ∷ []) []) s)
-unfolding runT
+    → emitted (pick u (str h CPU (offReg lay g) ∷ is) is) s ≡ emitted is (emitted (pick u (str h CPU (offReg lay g) ∷ []) []) s)
+unfolding emitted runT
 run-pick lay h g is true s = refl
 run-pick lay h g is false s = refl
 
@@ -51,31 +51,31 @@ abbrev pub left : Layout → List ℕ → List Bool → ℕ → List Instr
 left lay gs ds i = flushFrom lay (drop i POOL) (drop i gs) (drop i ds)
 
 module _ (lay : Layout) (gs : List ℕ) (ds : List Bool) (a : length gs ≡ 8) (b : length ds ≡ 8) where
-  pub one-more : (i h : ℕ) (s₀ s s₁ : State) → i < 8 → h ≡ host i → runT (map ins (left lay gs ds 0)) s₀ ≡ runT (map ins (left lay gs ds i)) s
-      → s₁ ≡ runT (flushed lay h (getD gs i 0) (getD ds i false)) s → runT (map ins (left lay gs ds 0)) s₀ ≡ runT (map ins (left lay gs ds (i + 1))) s₁
+  pub one-more : (i h : ℕ) (s₀ s s₁ : State) → i < 8 → h ≡ host i → emitted (left lay gs ds 0) s₀ ≡ emitted (left lay gs ds i) s
+      → s₁ ≡ emitted (flushed lay h (getD gs i 0) (getD ds i false)) s → emitted (left lay gs ds 0) s₀ ≡ emitted (left lay gs ds (i + 1)) s₁
   unfolding flushFrom
   one-more i h s₀ s s₁ l o e p =
       e
       ∙ rw (drop-cons POOL i 0 l, drop-cons gs i 0 (omega arith), drop-cons ds i false (omega arith))
       (run-pick lay (host i) (getD gs i 0) (flushFrom lay (drop (suc i) POOL) (drop (suc i) gs) (drop (suc i) ds)) (getD ds i false && not (eqb (getD gs i 0) FREE)) s
-      ∙ rw add-one (ap (runT (map ins (flushFrom lay (drop (suc i) POOL) (drop (suc i) gs) (drop (suc i) ds)))) (sym (p ∙ ap (λ k. runT (flushed lay k (getD gs i 0) (getD ds i false)) s) o))))
+      ∙ rw add-one (ap (emitted (flushFrom lay (drop (suc i) POOL) (drop (suc i) gs) (drop (suc i) ds))) (sym (p ∙ ap (λ k. emitted (flushed lay k (getD gs i 0) (getD ds i false)) s) o))))
 
-  pub all-done : (i : ℕ) (s₀ s : State) → 8 ≤ i → runT (map ins (left lay gs ds 0)) s₀ ≡ runT (map ins (left lay gs ds i)) s → s ≡ runT (map ins (left lay gs ds 0)) s₀
-  unfolding flushFrom runT
+  pub all-done : (i : ℕ) (s₀ s : State) → 8 ≤ i → emitted (left lay gs ds 0) s₀ ≡ emitted (left lay gs ds i) s → s ≡ emitted (left lay gs ds 0) s₀
+  unfolding flushFrom emitted runT
   all-done i s₀ s l e = sym (e ∙ rw (drop-of-length-le POOL l))
 
 -- ---- a reload
-pub load-free : (lay : Layout) (h g : ℕ) (s : State) → g ≡ FREE → s ≡ runT (reloaded lay h g) s
-unfolding runT
+pub load-free : (lay : Layout) (h g : ℕ) (s : State) → g ≡ FREE → s ≡ emitted (reloaded lay h g) s
+unfolding emitted runT
 load-free lay h g s e = rw (eq-eqb g FREE e)
 
-pub load-held : (lay : Layout) (h g : ℕ) (s s₁ : State) (i : Instr) (k : ℕ) → (g ≡ FREE → ⊥) → i ≡ MemoryImm LdrW k CPU h → k ≡ offReg lay g / 4 → s₁ ≡ putT (ins i) s → s₁ ≡ runT (reloaded lay h g) s
-unfolding runT
-load-held lay h g s s₁ i k n f o p = rw (ne-eqb g FREE n) (p ∙ ap (λ j. putT (ins j) s) (f ∙ ap (λ j. MemoryImm LdrW j CPU h) o))
+pub load-held : (lay : Layout) (h g : ℕ) (s s₁ : State) (i : Instr) (k : ℕ) → (g ≡ FREE → ⊥) → i ≡ MemoryImm LdrW k CPU h → k ≡ offReg lay g / 4 → s₁ ≡ emitted (i ∷ []) s → s₁ ≡ emitted (reloaded lay h g) s
+unfolding emitted runT
+load-held lay h g s s₁ i k n f o p = rw (ne-eqb g FREE n) (p ∙ ap (λ j. emitted (j ∷ []) s) (f ∙ ap (λ j. MemoryImm LdrW j CPU h) o))
 
 load-pick : (lay : Layout) (h g : ℕ) (is : List Instr) (u : Bool) (s : State)
-    → runT (map ins (pick u is (ldr h CPU (offReg lay g) ∷ is))) s ≡ runT (map ins is) (runT (pick u [] (ins (ldr h CPU (offReg lay g)) ∷ [])) s)
-unfolding runT
+    → emitted (pick u is (ldr h CPU (offReg lay g) ∷ is)) s ≡ emitted is (emitted (pick u [] (ldr h CPU (offReg lay g) ∷ [])) s)
+unfolding emitted runT
 load-pick lay h g is true s = refl
 load-pick lay h g is false s = refl
 
@@ -84,15 +84,15 @@ abbrev pub unloaded : Layout → List ℕ → ℕ → List Instr
 unloaded lay gs i = reloadFrom lay (drop i POOL) (drop i gs)
 
 module _ (lay : Layout) (gs : List ℕ) (a : length gs ≡ 8) where
-  pub one-loaded : (i h : ℕ) (s₀ s s₁ : State) → i < 8 → h ≡ host i → runT (map ins (unloaded lay gs 0)) s₀ ≡ runT (map ins (unloaded lay gs i)) s
-      → s₁ ≡ runT (reloaded lay h (getD gs i 0)) s → runT (map ins (unloaded lay gs 0)) s₀ ≡ runT (map ins (unloaded lay gs (i + 1))) s₁
+  pub one-loaded : (i h : ℕ) (s₀ s s₁ : State) → i < 8 → h ≡ host i → emitted (unloaded lay gs 0) s₀ ≡ emitted (unloaded lay gs i) s
+      → s₁ ≡ emitted (reloaded lay h (getD gs i 0)) s → emitted (unloaded lay gs 0) s₀ ≡ emitted (unloaded lay gs (i + 1)) s₁
   unfolding reloadFrom
   one-loaded i h s₀ s s₁ l o e p =
       e
       ∙ rw (drop-cons POOL i 0 l, drop-cons gs i 0 (omega arith))
       (load-pick lay (host i) (getD gs i 0) (reloadFrom lay (drop (suc i) POOL) (drop (suc i) gs)) (eqb (getD gs i 0) FREE) s
-      ∙ rw add-one (ap (runT (map ins (reloadFrom lay (drop (suc i) POOL) (drop (suc i) gs)))) (sym (p ∙ ap (λ k. runT (reloaded lay k (getD gs i 0)) s) o))))
+      ∙ rw add-one (ap (emitted (reloadFrom lay (drop (suc i) POOL) (drop (suc i) gs))) (sym (p ∙ ap (λ k. emitted (reloaded lay k (getD gs i 0)) s) o))))
 
-  pub all-loaded : (i : ℕ) (s₀ s : State) → 8 ≤ i → runT (map ins (unloaded lay gs 0)) s₀ ≡ runT (map ins (unloaded lay gs i)) s → s ≡ runT (map ins (unloaded lay gs 0)) s₀
-  unfolding reloadFrom runT
+  pub all-loaded : (i : ℕ) (s₀ s : State) → 8 ≤ i → emitted (unloaded lay gs 0) s₀ ≡ emitted (unloaded lay gs i) s → s ≡ emitted (unloaded lay gs 0) s₀
+  unfolding reloadFrom emitted runT
   all-loaded i s₀ s l e = sym (e ∙ rw (drop-of-length-le POOL l))

@@ -1,19 +1,27 @@
-// Emitting: instructions through their words, and the cache's flush and reload.
+// Emitting: instructions through their words, guest registers through the cache, and the cache's flush and reload.
 ghost use mathlib.Core.Path.{_≡_};
-ghost use mathlib.Core.List.{List, [], _∷_, map};
+ghost use mathlib.Core.List.{List, [], _∷_};
 ghost use Prim.Native.Nat.{ℕ, _+_, _<_, _≤_};
-ghost use Rattle.code.specs.Items.{ins as insItem};
-ghost use Rattle.lowering.specs.Cache.{flush as flushOf, reload as reloadOf};
+ghost use Rattle.lowering.specs.Cache.{flush as flushOf, reload as reloadOf, seated, stored, ldReg, stReg};
+ghost use Rattle.cache.specs.Lookup.{spilled};
 ghost use Rattle.asm.specs.State.{state};
-ghost use Rattle.emission.specs.Total.{putT, runT, flushed, reloaded};
+ghost use Rattle.emission.specs.Total.{emitted, flushed, reloaded};
 use arm::Instr;
 use asm::Asm;
 use block::Layout;
+use cache::Found;
+use cache::Spill;
 use lowering::RegCache;
+
+// The code and the cache behind a guest register's move.
+pub struct Held {
+    pub a: Asm,
+    pub rc: RegCache,
+}
 
 // One instruction, and the word 0 for one that no word carries.
 pub fn ins(out: &mut [u32], tab: &mut [u64; 6152], a: Asm, i: Instr) -> Asm
-    ensures { λ r. ⌜ state (now (out .exit)) (now (tab .exit)) r ≡ putT (insItem i) (state (now (out .entry)) (now (tab .entry)) a) ⌝ }
+    ensures { λ r. ⌜ state (now (out .exit)) (now (tab .exit)) r ≡ emitted (i ∷ []) (state (now (out .entry)) (now (tab .entry)) a) ⌝ }
 {
     asm::emit(out, tab, a, words::word(i))
 }
@@ -28,7 +36,7 @@ fn flush_slot(
     g: u8,
     d: bool,
 ) -> Asm
-    ensures { λ r. ⌜ state (now (out .exit)) (now (tab .exit)) r ≡ runT (flushed lay h g d) (state (now (out .entry)) (now (tab .entry)) a) ⌝ }
+    ensures { λ r. ⌜ state (now (out .exit)) (now (tab .exit)) r ≡ emitted (flushed lay h g d) (state (now (out .entry)) (now (tab .entry)) a) ⌝ }
 {
     if d {
         if g != 16 {
@@ -40,7 +48,7 @@ fn flush_slot(
 
 // The changed registers are stored, in pool order. The marks stay.
 pub fn flush(out: &mut [u32], tab: &mut [u64; 6152], a: Asm, lay: Layout, rc: RegCache) -> Asm
-    ensures { λ r. ⌜ state (now (out .exit)) (now (tab .exit)) r ≡ runT (map insItem (flushOf lay rc)) (state (now (out .entry)) (now (tab .entry)) a) ⌝ }
+    ensures { λ r. ⌜ state (now (out .exit)) (now (tab .exit)) r ≡ emitted (flushOf lay rc) (state (now (out .entry)) (now (tab .entry)) a) ⌝ }
 {
     let guest = rc.guest;
     let dirty = rc.dirty;
@@ -55,7 +63,7 @@ pub fn flush(out: &mut [u32], tab: &mut [u64; 6152], a: Asm, lay: Layout, rc: Re
 
 // Host register h holds guest register g again, if it is one.
 fn reload_slot(out: &mut [u32], tab: &mut [u64; 6152], a: Asm, lay: Layout, h: u32, g: u8) -> Asm
-    ensures { λ r. ⌜ state (now (out .exit)) (now (tab .exit)) r ≡ runT (reloaded lay h g) (state (now (out .entry)) (now (tab .entry)) a) ⌝ }
+    ensures { λ r. ⌜ state (now (out .exit)) (now (tab .exit)) r ≡ emitted (reloaded lay h g) (state (now (out .entry)) (now (tab .entry)) a) ⌝ }
 {
     if g != 16 {
         return ins(out, tab, a, cache::ldr(h, cache::off_reg(lay, g)));
@@ -65,7 +73,7 @@ fn reload_slot(out: &mut [u32], tab: &mut [u64; 6152], a: Asm, lay: Layout, h: u
 
 // The held registers are loaded again, in pool order.
 pub fn reload(out: &mut [u32], tab: &mut [u64; 6152], a: Asm, lay: Layout, rc: RegCache) -> Asm
-    ensures { λ r. ⌜ state (now (out .exit)) (now (tab .exit)) r ≡ runT (map insItem (reloadOf lay rc)) (state (now (out .entry)) (now (tab .entry)) a) ⌝ }
+    ensures { λ r. ⌜ state (now (out .exit)) (now (tab .exit)) r ≡ emitted (reloadOf lay rc) (state (now (out .entry)) (now (tab .entry)) a) ⌝ }
 {
     let guest = rc.guest;
     let mut q = a;
@@ -75,4 +83,78 @@ pub fn reload(out: &mut [u32], tab: &mut [u64; 6152], a: Asm, lay: Layout, rc: R
         i += 1;
     }
     q
+}
+
+// What a slot's new holder puts out.
+fn spill(out: &mut [u32], tab: &mut [u64; 6152], a: Asm, s: Spill) -> Asm
+    ensures { λ r. ⌜ state (now (out .exit)) (now (tab .exit)) r ≡ emitted (spilled s) (state (now (out .entry)) (now (tab .entry)) a) ⌝ }
+{
+    match s {
+        Spill::Store(i) => ins(out, tab, a, i),
+        Spill::Nothing => a,
+    }
+}
+
+// w(t) = guest register r
+pub fn ld_reg(
+    out: &mut [u32],
+    tab: &mut [u64; 6152],
+    a: Asm,
+    lay: Layout,
+    rc: RegCache,
+    t: u32,
+    r: u8,
+) -> Held
+    ensures { λ q. ⌜ (state (now (out .exit)) (now (tab .exit)) (q .a) ≡ emitted (ldReg lay rc t r) (state (now (out .entry)) (now (tab .entry)) a)) × (q .rc ≡ seated rc r) ⌝ }
+{
+    let found = cache::slot(rc, r);
+    if let Found::At(i) = found {
+        let moved = ins(out, tab, a, cache::mov(t, cache::host(i)));
+        return Held {
+            a: moved,
+            rc: cache::touch(rc, i),
+        };
+    }
+    let taken = cache::take_slot(lay, rc);
+    let i = taken.i;
+    let h = cache::host(i);
+    let s = taken.spill;
+    let freed = spill(out, tab, a, s);
+    let filled = ins(out, tab, freed, cache::ldr(h, cache::off_reg(lay, r)));
+    let moved = ins(out, tab, filled, cache::mov(t, h));
+    Held {
+        a: moved,
+        rc: cache::assign(rc, i, r),
+    }
+}
+
+// guest register r = w(t)
+pub fn st_reg(
+    out: &mut [u32],
+    tab: &mut [u64; 6152],
+    a: Asm,
+    lay: Layout,
+    rc: RegCache,
+    t: u32,
+    r: u8,
+) -> Held
+    ensures { λ q. ⌜ (state (now (out .exit)) (now (tab .exit)) (q .a) ≡ emitted (stReg lay rc t r) (state (now (out .entry)) (now (tab .entry)) a)) × (q .rc ≡ stored rc r) ⌝ }
+{
+    let found = cache::slot(rc, r);
+    if let Found::At(i) = found {
+        let moved = ins(out, tab, a, cache::mov(cache::host(i), t));
+        return Held {
+            a: moved,
+            rc: cache::mark(cache::touch(rc, i), i),
+        };
+    }
+    let taken = cache::take_slot(lay, rc);
+    let i = taken.i;
+    let s = taken.spill;
+    let freed = spill(out, tab, a, s);
+    let moved = ins(out, tab, freed, cache::mov(cache::host(i), t));
+    Held {
+        a: moved,
+        rc: cache::mark(cache::assign(rc, i, r), i),
+    }
 }

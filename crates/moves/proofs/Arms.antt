@@ -1,4 +1,4 @@
--- What every return is proved by: `search arms`.
+-- The instructions of each return are the definition's.
 use mathlib.Core.Path.{_≡_, refl, sym, ap, ap₂, _∙_}
 use mathlib.Core.Bool.{Bool, true, false, not}
 use mathlib.Core.List.{List, [], _∷_, _++_}

@@ -1,11 +1,12 @@
-// Moves and arithmetic of `Gen` that are up to three instructions and no jump, as data.
+// Moves and arithmetic of `Gen` that are up to three instructions and no jump.
 ghost use mathlib.Core.Path.{_≡_};
 ghost use mathlib.Core.List.{List, [], _∷_, _++_};
 ghost use Prim.Native.Nat.{ℕ, _+_, _-_, _<_};
 ghost use Rattle.block.specs.Block.{bytes as bytesOf};
-ghost use Rattle.lowering.specs.Instrs.{mov32 as mov32Of, add as addOf};
+ghost use Rattle.lowering.specs.Instrs.{mov32 as mov32Of, and as andOf};
 ghost use Rattle.lowering.specs.Fragments.{addImm, even as evenOf, extended as extendedOf, loads as loadsOf, stores as storesOf};
-ghost use Rattle.moves.specs.Listed.{listed};
+ghost use Rattle.asm.specs.State.{state};
+ghost use Rattle.emission.specs.Total.{emitted};
 use arm::Access;
 use arm::AddSub;
 use arm::Extract;
@@ -16,73 +17,36 @@ use arm::Move;
 use arm::Second;
 use arm::Shift;
 use arm::Size;
+use asm::Asm;
 use block::Width;
 
-pub struct InstrCell {
-    pub instr: Instr,
-}
-
-// The first n of cells.
-pub struct Instrs {
-    pub cells: [InstrCell; 3],
-    pub n: u32,
-}
-
-fn instrs0() -> Instrs
-    ensures { λ r. ⌜ listed r ≡ [] ⌝ }
-{
-    Instrs {
-        cells: [InstrCell { instr: Instr::Nop }; 3],
-        n: 0,
-    }
-}
-
-fn instrs1(a: Instr) -> Instrs
-    ensures { λ r. ⌜ listed r ≡ a ∷ [] ⌝ }
-{
-    let mut cells = [InstrCell { instr: Instr::Nop }; 3];
-    cells[0] = InstrCell { instr: a };
-    Instrs { cells, n: 1 }
-}
-
-fn instrs2(a: Instr, b: Instr) -> Instrs
-    ensures { λ r. ⌜ listed r ≡ a ∷ b ∷ [] ⌝ }
-{
-    let mut cells = [InstrCell { instr: Instr::Nop }; 3];
-    cells[0] = InstrCell { instr: a };
-    cells[1] = InstrCell { instr: b };
-    Instrs { cells, n: 2 }
-}
-
-fn instrs3(a: Instr, b: Instr, c: Instr) -> Instrs
-    ensures { λ r. ⌜ listed r ≡ a ∷ b ∷ c ∷ [] ⌝ }
-{
-    let mut cells = [InstrCell { instr: Instr::Nop }; 3];
-    cells[0] = InstrCell { instr: a };
-    cells[1] = InstrCell { instr: b };
-    cells[2] = InstrCell { instr: c };
-    Instrs { cells, n: 3 }
-}
-
 // A 32-bit immediate in one or two instructions; a shift by 16 is tried before movn.
-pub fn mov32(rd: u32, imm: u32) -> Instrs
-    ensures { λ r. ⌜ listed r ≡ mov32Of rd imm ⌝ }
+pub fn mov32(out: &mut [u32], tab: &mut [u64; 6152], a: Asm, rd: u32, imm: u32) -> Asm
+    ensures { λ r. ⌜ state (now (out .exit)) (now (tab .exit)) r ≡ emitted (mov32Of rd imm) (state (now (out .entry)) (now (tab .entry)) a) ⌝ }
 {
     let lo = imm % 65536;
     let hi = imm / 65536;
     if hi == 0 {
-        return instrs1(Instr::MoveWide(Size::W, Move::Movz, 0, imm, rd));
+        return emission::ins(
+            out,
+            tab,
+            a,
+            Instr::MoveWide(Size::W, Move::Movz, 0, imm, rd),
+        );
     }
     if lo == 0 {
-        return instrs1(Instr::MoveWide(Size::W, Move::Movz, 1, hi, rd));
+        return emission::ins(out, tab, a, Instr::MoveWide(Size::W, Move::Movz, 1, hi, rd));
     }
     if hi == 65535 {
-        return instrs1(Instr::MoveWide(Size::W, Move::Movn, 0, 65535 - lo, rd));
+        return emission::ins(
+            out,
+            tab,
+            a,
+            Instr::MoveWide(Size::W, Move::Movn, 0, 65535 - lo, rd),
+        );
     }
-    instrs2(
-        Instr::MoveWide(Size::W, Move::Movz, 0, lo, rd),
-        Instr::MoveWide(Size::W, Move::Movk, 1, hi, rd),
-    )
+    let a = emission::ins(out, tab, a, Instr::MoveWide(Size::W, Move::Movz, 0, lo, rd));
+    emission::ins(out, tab, a, Instr::MoveWide(Size::W, Move::Movk, 1, hi, rd))
 }
 
 // The bytes of a width.
@@ -125,81 +89,82 @@ pub fn stores(w: Width) -> Access
 }
 
 // What a helper gave, to 32 bits.
-pub fn extended(w: Width, signed: bool) -> Instrs
-    ensures { λ r. ⌜ listed r ≡ extendedOf w signed ⌝ }
+pub fn extended(out: &mut [u32], tab: &mut [u64; 6152], a: Asm, w: Width, signed: bool) -> Asm
+    ensures { λ r. ⌜ state (now (out .exit)) (now (tab .exit)) r ≡ emitted (extendedOf w signed) (state (now (out .entry)) (now (tab .entry)) a) ⌝ }
 {
     if !signed {
-        return instrs0();
+        return a;
     }
     match w {
-        Width::Byte => instrs1(Instr::Bitfield(Size::W, Extract::Sbfm, 0, 7, 0, 0)),
-        Width::Half => instrs1(Instr::Bitfield(Size::W, Extract::Sbfm, 0, 15, 0, 0)),
-        Width::Word => instrs0(),
+        Width::Byte => emission::ins(
+            out,
+            tab,
+            a,
+            Instr::Bitfield(Size::W, Extract::Sbfm, 0, 7, 0, 0),
+        ),
+        Width::Half => emission::ins(
+            out,
+            tab,
+            a,
+            Instr::Bitfield(Size::W, Extract::Sbfm, 0, 15, 0, 0),
+        ),
+        Width::Word => a,
     }
+}
+
+// w3 = w3 & w2
+fn and332() -> Instr
+    ensures { λ i. ⌜ i ≡ andOf 3 3 2 ⌝ }
+{
+    Instr::LogicalShifted(Size::W, Logic::And, Second::Plain, Shift::Lsl, 2, 0, 3, 3)
 }
 
 // A halfword is the one at the address with its lowest bit cleared.
-pub fn even(w: Width) -> Instrs
-    ensures { λ r. ⌜ listed r ≡ evenOf w ⌝ }
+pub fn even(out: &mut [u32], tab: &mut [u64; 6152], a: Asm, w: Width) -> Asm
+    ensures { λ r. ⌜ state (now (out .exit)) (now (tab .exit)) r ≡ emitted (evenOf w) (state (now (out .entry)) (now (tab .entry)) a) ⌝ }
 {
     match w {
-        Width::Byte => instrs0(),
-        Width::Half => instrs2(
-            Instr::MoveWide(Size::W, Move::Movn, 0, 1, 2),
-            Instr::LogicalShifted(Size::W, Logic::And, Second::Plain, Shift::Lsl, 2, 0, 3, 3),
-        ),
-        Width::Word => instrs0(),
+        Width::Byte => a,
+        Width::Half => {
+            let a = mov32(out, tab, a, 2, 0xffff_fffe);
+            emission::ins(out, tab, a, and332())
+        }
+        Width::Word => a,
     }
-}
-
-// w(d) = w(s) + imm, through w9.
-fn add_long(d: u32, s: u32, imm: u32) -> Instrs
-    ensures { λ r. ⌜ listed r ≡ mov32Of 9 imm ++ (addOf d s 9 ∷ []) ⌝ }
-{
-    let lo = imm % 65536;
-    let hi = imm / 65536;
-    let sum = Instr::AddSubShifted(Size::W, AddSub::Add, Flags::Keeps, Shift::Lsl, 9, 0, s, d);
-    if hi == 0 {
-        return instrs2(Instr::MoveWide(Size::W, Move::Movz, 0, imm, 9), sum);
-    }
-    if lo == 0 {
-        return instrs2(Instr::MoveWide(Size::W, Move::Movz, 1, hi, 9), sum);
-    }
-    if hi == 65535 {
-        return instrs2(Instr::MoveWide(Size::W, Move::Movn, 0, 65535 - lo, 9), sum);
-    }
-    instrs3(
-        Instr::MoveWide(Size::W, Move::Movz, 0, lo, 9),
-        Instr::MoveWide(Size::W, Move::Movk, 1, hi, 9),
-        sum,
-    )
 }
 
 // Gen::add_imm: w(d) = w(s) + imm, any 32 bits; nothing for 0 to the same register.
-pub fn add_imm(d: u32, s: u32, imm: u32) -> Instrs
-    ensures { λ r. ⌜ listed r ≡ addImm d s imm ⌝ }
+pub fn add_imm(out: &mut [u32], tab: &mut [u64; 6152], a: Asm, d: u32, s: u32, imm: u32) -> Asm
+    ensures { λ r. ⌜ state (now (out .exit)) (now (tab .exit)) r ≡ emitted (addImm d s imm) (state (now (out .entry)) (now (tab .entry)) a) ⌝ }
 {
     if imm == 0 {
         if d == s {
-            return instrs0();
+            return a;
         }
-        return instrs1(Instr::LogicalShifted(
-            Size::W,
-            Logic::Orr,
-            Second::Plain,
-            Shift::Lsl,
-            s,
-            0,
-            31,
-            d,
-        ));
+        return emission::ins(out, tab, a, cache::mov(d, s));
     }
     if imm < 4096 {
-        return instrs1(Instr::AddSubImm(Size::W, AddSub::Add, Flags::Keeps, imm, s, d));
+        return emission::ins(
+            out,
+            tab,
+            a,
+            Instr::AddSubImm(Size::W, AddSub::Add, Flags::Keeps, imm, s, d),
+        );
     }
     let neg = std::num::wrapping_sub_u32(0, imm);
     if neg < 4096 {
-        return instrs1(Instr::AddSubImm(Size::W, AddSub::Sub, Flags::Keeps, neg, s, d));
+        return emission::ins(
+            out,
+            tab,
+            a,
+            Instr::AddSubImm(Size::W, AddSub::Sub, Flags::Keeps, neg, s, d),
+        );
     }
-    add_long(d, s, imm)
+    let a = mov32(out, tab, a, 9, imm);
+    emission::ins(
+        out,
+        tab,
+        a,
+        Instr::AddSubShifted(Size::W, AddSub::Add, Flags::Keeps, Shift::Lsl, 9, 0, s, d),
+    )
 }

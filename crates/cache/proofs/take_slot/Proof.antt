@@ -1,11 +1,9 @@
 use borrow.Author.Needs.{needs}
-use mathlib.Core.Path.{_≡_, refl, sym, ap, ap₂, _∙_}
-use mathlib.Core.List.{List, [], _∷_, _++_}
-use Rattle.arm.specs.declared.Instr.{Instr}
-use Rattle.lowering.specs.Instrs.{CPU, mov, ldr, str}
+use mathlib.Core.Path.{_≡_, sym, ap, _∙_}
+use mathlib.Core.List.{[], _∷_}
+use Rattle.lowering.specs.Instrs.{CPU, str}
 use lib.ListN.{getD}
 use Rattle.lowering.specs.Cache.{host, FREE, offReg}
-use Rattle.cache.specs.Lookup.{spilled}
 use Rattle.cache.proofs.Cases.{held-small, free-chosen, free-spill, old-chosen, dirty-spill, clean-spill}
 use Rattle.cache.proofs.take_slot.Statement.{statement}
 use Rattle.cache.proofs.take_slot.Tie as tie

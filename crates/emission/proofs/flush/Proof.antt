@@ -8,7 +8,7 @@ use lib.ListN.{length}
 use Rattle.code.specs.Items.{ins}
 use Rattle.lowering.specs.Cache.{POOL, flushFrom, flush}
 use Rattle.asm.specs.State.{state}
-use Rattle.emission.specs.Total.{runT}
+use Rattle.emission.specs.Total.{emitted}
 use Rattle.emission.proofs.Slots.{left, one-more, all-done}
 use Rattle.emission.proofs.flush.Statement.{statement}
 use Rattle.emission.proofs.flush.Tie as tie
@@ -16,7 +16,7 @@ use Rattle.emission.proofs.flush.Tie as tie
 abbrev Inv-loop : tie.InvT-loop
 Inv-loop out₀ tab₀ lay guest dirty q₀ i₀ out tab q i =
     (i ≤ 8) × (length out ≡ length out₀) × (length guest ≡ 8) × (length dirty ≡ 8)
-    × (runT (map ins (left lay guest dirty 0)) (state out₀ tab₀ q₀) ≡ runT (map ins (left lay guest dirty i)) (state out tab q))
+    × (emitted (left lay guest dirty 0) (state out₀ tab₀ q₀) ≡ emitted (left lay guest dirty i) (state out tab q))
 
 abbrev μ-loop : tie.MeasureT-loop
 μ-loop out₀ tab₀ lay guest dirty q₀ i₀ out tab q i = 8 - i
