@@ -1,0 +1,75 @@
+// What `compile` does: the opening words, the limit test, the operations, the common exit, and the end of the assembly.
+ghost use mathlib.Core.Path.{_≡_};
+ghost use mathlib.Core.List.{map};
+ghost use Rattle.block.specs.Checked.{Checked};
+ghost use Rattle.code.specs.Items.{ins as insItem, new as newItem, bind as bindItem};
+ghost use Rattle.code.specs.Tree.{nowhere};
+ghost use Rattle.lowering.specs.Cache.{emptyCache};
+ghost use Rattle.lowering.specs.Compile.{blockCode, blockWords, starts, targets};
+ghost use Rattle.lowering.specs.Steps.{blockSteps};
+ghost use Rattle.finish.specs.Whole.{laid, told};
+ghost use Rattle.lower.specs.Lowers.{atsOf, targetsOf};
+ghost use Rattle.compile.specs.Emitted.{Emits};
+use asm::Asm;
+use block::Block;
+use finish::Finished;
+use lower::Lowered;
+use lower::Sites;
+use lowering::RegCache;
+
+pub struct Compiled {
+    pub finished: Finished,
+    pub sites: Sites,
+}
+
+// No guest register is held.
+fn empty() -> RegCache
+    ensures { λ r. ⌜ r ≡ emptyCache ⌝ }
+{
+    RegCache {
+        guest: [16; 8],
+        dirty: [false; 8],
+        used: [0; 8],
+        clock: 0,
+    }
+}
+
+// Behind the opening words: nothing held, no site.
+fn begun(a: Asm) -> Lowered
+    ensures { λ r. ⌜ (r .a ≡ a) × (r .rc ≡ emptyCache) × (r .sites .n ≡ 0) ⌝ }
+{
+    let rc = empty();
+    let sites = Sites {
+        n: 0,
+        at: [0; 2],
+        target: [0; 2],
+    };
+    Lowered { a, rc, sites }
+}
+
+// Every word of a block, the distances still 0.
+fn emit(out: &mut [u32], tab: &mut [u64; 6152], b: Block) -> Lowered
+    ensures { λ r. ⌜ Emits b (now (out .entry)) (now (tab .entry)) (now (out .exit)) (now (tab .exit)) r ⌝ }
+{
+    let exit = asm::new_label(asm::start());
+    let a = jumps::opening(out, tab, exit.a);
+    let q = lower::limit(out, tab, begun(a), b.layout, b.pc0, b.n);
+    let q = lower::emit_ops(out, tab, q, b);
+    let a = q.a;
+    let sites = q.sites;
+    let rc = q.rc;
+    asm::bind(out, tab, a, exit.l);
+    let a = jumps::closing(out, tab, a);
+    Lowered { a, rc, sites }
+}
+
+// The words of a checked block in the lent slice, or zeros where they do not fit.
+pub fn compile(out: &mut [u32], b: Block) -> Compiled
+    ensures { λ r. ⌜ (Checked b → (r .finished ≡ told (blockWords b) (now (out .entry))) × (now (out .exit) ≡ laid (blockWords b) (now (out .entry))) × (atsOf (r .sites) ≡ starts (blockCode b) 0) × (targetsOf (r .sites) ≡ targets (blockSteps b))) ⌝ }
+{
+    let mut tab: [u64; 6152] = [0; 6152];
+    let q = emit(out, &mut tab, b);
+    let sites = q.sites;
+    let finished = finish::finish(out, &tab, q.a);
+    Compiled { finished, sites }
+}

@@ -1,0 +1,1 @@
+// Lists of steps, one behind another: definitions and theorems, no function.

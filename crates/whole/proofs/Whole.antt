@@ -1,0 +1,70 @@
+-- AN EMITTED BLOCK is the block's words in the lent room, and its sites are the block's.
+use mathlib.Core.Path.{_≡_, refl, sym, ap, _∙_}
+use mathlib.Core.List.{List}
+use Prim.Native.Nat.{ℕ}
+use native.Mathlib.Omega.{arith}
+use lib.ListN.{length}
+use Rattle.block.specs.declared.Block.{Block}
+use Rattle.block.specs.Checked.{Checked}
+use Rattle.code.specs.Items.{new, bind}
+use Rattle.code.specs.Tree.{Depth, top, Var, Code, code, Fine, nowhere, words, wholeItems}
+use Rattle.code.specs.Lent.{calls}
+use Rattle.code.proofs.Tree.{whole-size, whole-length}
+use Rattle.lowering.specs.Fragments.{closing}
+use Rattle.lowering.specs.Compile.{blockCode, blockLines, blockWords, starts}
+use Rattle.asm.specs.State.{tableRoom, State, state, begin, put, made, run, after}
+use Rattle.asm.proofs.Laws.{words-run, whole-run}
+use Rattle.emission.specs.Total.{emitted, afterT, startsT}
+use Rattle.emission.proofs.Carried.{fine-run}
+use Rattle.emission.proofs.Position.{starts-are}
+use Rattle.finish.specs.Finish.{finished, finishedWords}
+use Rattle.finish.specs.Whole.{laid, told, Held}
+use Rattle.finish.proofs.Join.{finished-block}
+use Rattle.bounds.specs.Whole.{Tables, Carries}
+use Rattle.bounds.proofs.Whole.{tables, carries}
+
+-- code whose operands fit, emitted
+fine-after : {n : Depth} (c : Code n) (e : Var n → ℕ) (x : ℕ) (s : State) → Fine c → afterT c e x s ≡ after c e x s
+unfolding afterT after
+fine-after c e x s h = fine-run c e x (s .asm .labels) s h
+
+module _ (blk : Block) (ck : Checked blk) (lent tab : List ℕ) where
+  held : Held (blockCode blk) closing
+  unfolding blockLines
+  held =
+      let t : Tables blk = tables blk ck in
+      let k : Carries blk = carries blk ck in
+      record {
+        labels = omega (arith, t .labels);
+        jumps = omega (arith, t .jumps);
+        literals = omega (arith, t .literals);
+        fine = k .fine;
+        sound = k .sound;
+        tests = k .tests;
+        short = k .short;
+      }
+
+  module _ (s₁ : State) (p : s₁ ≡ put new (state lent tab begin)) where
+    module _ (full : length tab ≡ tableRoom) (s₂ s₃ s₄ : State) (q : s₂ ≡ afterT (blockCode blk) nowhere 0 s₁) (r : s₃ ≡ put (bind 0) s₂) (t : s₄ ≡ emitted closing s₃) where
+      items-run : s₄ ≡ run (wholeItems (blockCode blk) closing) (state lent tab begin)
+      unfolding Fine calls emitted
+      items-run =
+          whole-run (blockCode blk) closing (state lent tab begin) s₁ s₂ s₃ s₄ refl (omega (arith, tables blk ck .labels)) p
+          (q ∙ fine-after (blockCode blk) nowhere 0 s₁ (held .fine)) r
+          (t ∙ fine-run {n = top} (code closing) nowhere 0 0 s₃ (held .sound) ∙ sym (words-run closing s₃))
+
+      -- THE LENT WORDS, and the answer
+      pub whole-words : finishedWords s₄ ≡ laid (blockWords blk) lent
+      unfolding blockWords blockLines
+      whole-words = ap finishedWords items-run ∙ finished-block tab full (blockCode blk) closing held lent .0
+
+      pub whole-told : finished s₄ ≡ told (blockWords blk) lent
+      unfolding blockWords blockLines
+      whole-told = ap finished items-run ∙ finished-block tab full (blockCode blk) closing held lent .1
+
+    -- THE SITES
+    pub whole-starts : startsT (blockCode blk) nowhere 0 s₁ ≡ starts (blockCode blk) 0
+    unfolding put made blockLines
+    whole-starts =
+        let zero : s₁ .asm .at ≡ 0 = ap (λ (s : State). s .asm .at) p in
+        starts-are (blockCode blk) nowhere 0 s₁ (omega (arith, zero, whole-size (blockCode blk) closing, whole-length (blockCode blk) closing, tables blk ck .words)) ∙ ap (starts (blockCode blk)) zero
