@@ -1,0 +1,72 @@
+// Translation: a block record of any bytes to its block's words, in a lent slice.
+ghost use mathlib.Core.Path.{_≡_};
+ghost use Rattle.lowering.specs.Compile.{zipSites};
+ghost use Rattle.lower.specs.Lowers.{atsOf, targetsOf};
+ghost use Rattle.translation.specs.Translation.{listed, told, translation, lentAfter};
+ghost use Rattle.translation.specs.Contract.{Sited, Runs};
+use finish::Finished;
+use lowering::Site;
+use record::Answer;
+
+// Chained blocks enter behind the opening words; in bytes.
+const BODY: u32 = 52;
+
+// The chain sites of a block, at most two.
+pub enum Sites {
+    None,
+    One(Site),
+    Two(Site, Site),
+}
+
+// The number of words, the body's offset in bytes and the chain sites; or a fault's number and place.
+pub enum Translated {
+    Accepted(u32, u32, Sites),
+    Refused(u32, usize),
+}
+
+// The sites as they are told.
+fn listed_sites(s: lower::Sites) -> Sites
+    ensures { λ r. ⌜ listed r ≡ zipSites (atsOf s) (targetsOf s) ⌝ }
+{
+    let n = s.n;
+    if n == 0 {
+        return Sites::None;
+    }
+    let first = Site {
+        at: s.at[0],
+        target: s.target[0],
+    };
+    if n == 1 {
+        return Sites::One(first);
+    }
+    let second = Site {
+        at: s.at[1],
+        target: s.target[1],
+    };
+    Sites::Two(first, second)
+}
+
+// The words of an accepted record's block, those beyond untouched; or the first fault, and every lent word 0.
+pub fn translate(bytes: &[u8], words: &mut [u32]) -> Translated
+    ensures { λ r. ⌜ told r ≡ translation (now (bytes .entry)) (now (words .entry)) ⌝ }
+    ensures { λ r. ⌜ now (words .exit) ≡ lentAfter (now (bytes .entry)) (now (words .entry)) ⌝ }
+    ensures { λ r. ⌜ Sited (told r) ⌝ }
+    ensures { λ r. ⌜ Runs (told r) (now (bytes .entry)) (now (words .exit)) ⌝ }
+{
+    let reading = record::read(bytes);
+    let answer = reading.answer;
+    match answer {
+        Answer::Refused(number, place) => {
+            finish::zero(words);
+            Translated::Refused(number, place)
+        }
+        Answer::Accepted => {
+            let c = compile::compile(words, reading.block);
+            let finished = c.finished;
+            match finished {
+                Finished::Words(n) => Translated::Accepted(n, BODY, listed_sites(c.sites)),
+                Finished::Short(n) => Translated::Refused(10, bytes.len()),
+            }
+        }
+    }
+}
