@@ -67,10 +67,10 @@ fn put_refused(out: &mut [u8], n: u32) -> usize {
 fn put_answer(out: &mut [u8], s: Sequence) -> usize {
     match s {
         Sequence::Empty => text::put_all(out, 0, b"\n"),
-        Sequence::One(a) => text::put_row(out, 0, &[a]),
-        Sequence::Two(a, b) => text::put_row(out, 0, &[a, b]),
-        Sequence::Three(a, b, c) => text::put_row(out, 0, &[a, b, c]),
-        Sequence::Four(a, b, c, d) => text::put_row(out, 0, &[a, b, c, d]),
+        Sequence::One(a) => text::put_rows(out, 0, &[a]),
+        Sequence::Two(a, b) => text::put_rows(out, 0, &[a, b]),
+        Sequence::Three(a, b, c) => text::put_rows(out, 0, &[a, b, c]),
+        Sequence::Four(a, b, c, d) => text::put_rows(out, 0, &[a, b, c, d]),
         Sequence::Refused(n) => put_refused(out, n),
     }
 }

@@ -2,7 +2,7 @@
 // `refused N 0`, and a line that is no call `unknown`.
 mod answer;
 
-use libc::STDIN_FILENO;
+use input::Piece;
 use text::Held;
 
 // What a read of the input left: the line whose end is still to come, or the last one.
@@ -32,22 +32,16 @@ fn answer_lines(piece: &[u8], line: &mut [u8], held: Held) -> Held {
     start
 }
 
-// Reads once. A read that a signal interrupts is made again.
 fn read_some(line: &mut [u8], held: Held) -> Turn {
     let mut piece = io::buffer();
-    let got = libc::read(STDIN_FILENO, &mut piece);
-    if got < 0 {
-        if os::errno() == libc::EINTR {
-            return Turn::More(held);
+    match input::read_piece(&mut piece) {
+        Piece::Bytes(n) => {
+            let k = text::within(n, &piece);
+            Turn::More(answer_lines(&piece[..k], line, held))
         }
-        os::fail(b"standard input");
-        return Turn::Failed;
+        Piece::Ended => Turn::Ended(held),
+        Piece::Failed => Turn::Failed,
     }
-    if got == 0 {
-        return Turn::Ended(held);
-    }
-    let n = io::count(got, &piece);
-    Turn::More(answer_lines(&piece[..n], line, held))
 }
 
 // The last line, if the input does not end with a line feed.

@@ -1,5 +1,7 @@
+mod Decimal
 mod Digits
 mod Eight
+pub mod Placed
 mod Room
 mod Rows
 mod Search

@@ -5,7 +5,7 @@ ghost use mathlib.Core.List.{[], _∷_, _++_};
 ghost use lib.ListN.{length};
 ghost use lib.Seq.{sets};
 ghost use Rattle.io.specs.Counts.{Counts};
-ghost use Rattle.text.specs.Put.{Ahead, hex8, Decimal, Kept, separatorOf, row, Placed};
+ghost use Rattle.text.specs.Put.{Ahead, hex8, decimal, Kept, separatorOf, rows, Placed};
 
 // Puts bytes at `at`, as far as there is room.
 pub fn put_all(out: &mut [u8], at: usize, bytes: &[u8]) -> usize
@@ -37,7 +37,7 @@ pub fn put_hex8(out: &mut [u8], at: usize, w: u32) -> usize
 
 // Puts a number in decimal.
 pub fn put_decimal(out: &mut [u8], at: usize, n: u64) -> usize
-    ensures { λ r. ⌜ Decimal n (now (out .entry)) at (now (out .exit)) r ⌝ }
+    ensures { λ r. ⌜ Placed (decimal n) (now (out .entry)) at (now (out .exit)) r ⌝ }
 {
     let mut text = [0u8; 20];
     let k = io::decimal(n, &mut text);
@@ -50,6 +50,13 @@ pub fn within(n: usize, buf: &[u8]) -> usize
     ensures { λ r. ⌜ r ≡ min n (length (now (buf .entry))) ⌝ }
 {
     if n < buf.len() { n } else { buf.len() }
+}
+
+// The same of words.
+pub fn among(n: usize, words: &[u32]) -> usize
+    ensures { λ r. ⌜ Counts r (now (words .entry)) ⌝ }
+{
+    if n < words.len() { n } else { words.len() }
 }
 
 // The line that is being read, in a lent buffer: how many bytes it has there, and whether it was too long for it.
@@ -79,17 +86,21 @@ pub fn keep(line: &mut [u8], held: Held, part: &[u8]) -> Held
     }
 }
 
-// A line feed behind the last word of a line, and a blank behind any other.
-fn separator(left: usize) -> u8
-    ensures { λ r. ⌜ r ≡ separatorOf left ⌝ }
+// What stands behind the word at position `i`: a line feed behind the fifth of a line and behind the last, a blank behind any other.
+fn separator(i: usize, left: usize) -> u8
+    ensures { λ r. ⌜ r ≡ separatorOf i left ⌝ }
 {
     if left == 1 {
+        return b'\n';
+    }
+    if i % 5 == 4 {
         return b'\n';
     }
     b' '
 }
 
-fn put_word(out: &mut [u8], at: usize, w: u32, sep: u8) -> usize
+// Puts a word and the byte that stands behind it.
+pub fn put_word(out: &mut [u8], at: usize, w: u32, sep: u8) -> usize
     ensures { λ r. ⌜ Placed (hex8 w ++ (sep ∷ [])) (now (out .entry)) at (now (out .exit)) r ⌝ }
 {
     let behind = put_hex8(out, at, w);
@@ -97,14 +108,14 @@ fn put_word(out: &mut [u8], at: usize, w: u32, sep: u8) -> usize
     put_all(out, behind, &s)
 }
 
-// Puts words as a line of a listing.
-pub fn put_row(out: &mut [u8], at: usize, words: &[u32]) -> usize
-    ensures { λ r. ⌜ Placed (row (now (words .entry))) (now (out .entry)) at (now (out .exit)) r ⌝ }
+// Puts words as a listing, five a line.
+pub fn put_rows(out: &mut [u8], at: usize, words: &[u32]) -> usize
+    ensures { λ r. ⌜ Placed (rows 0 (now (words .entry))) (now (out .entry)) at (now (out .exit)) r ⌝ }
 {
     let mut end = at;
     let mut i = 0;
     while i < words.len() {
-        let sep = separator(words.len() - i);
+        let sep = separator(i, words.len() - i);
         end = put_word(out, end, words[i], sep);
         i += 1;
     }

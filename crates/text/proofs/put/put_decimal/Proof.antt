@@ -1,10 +1,8 @@
 -- `text::put_decimal` meets its contract: what `io::decimal` ensures of the digits, put by `put_all`.
-use Prim.Native.Nat.{ℕ}
-use mathlib.Core.Path.{ap, sym, subst, _∙_}
-use lib.ListN.{length}
-use lib.Seq.{sets}
-use denote.Ref.{now}
-use Rattle.text.specs.Put.{Ahead, Decimal}
+use native.Mathlib.Omega.{arith}
+use mathlib.Core.Path.{_∙_}
+use Rattle.text.proofs.Decimal.{decimal-is}
+use Rattle.text.proofs.Placed.{placed}
 use borrow.Author.Needs.{needs}
 use Rattle.text.proofs.put.put_decimal.Statement.{statement}
 use Rattle.text.proofs.put.put_decimal.Tie as tie
@@ -29,12 +27,8 @@ returns c =
     let a = c .before .before .before .before .before .before .before .before .args in
     let d = c .before .before .before .before .before .decimal in
     let p = c .before .before .put-all in
-    record {
-      count = d .result;
-      fewest = d .ensures .1 .0;
-      holds = p .ensures .0 ∙ ap (sets (now (a .out)) (a .at)) (d .ensures .1 .1);
-      behind = subst (λ (k : ℕ). Ahead (a .at) k (length (now (a .out))) (p .result)) (sym (d .ensures .0 .1)) (p .ensures .1);
-    }
+    let e = d .ensures .1 .1 ∙ decimal-is (a .n) (d .result) (omega (arith, c .before .before .before .before .before .before .before .before .fits .n)) (d .ensures .1 .0) in
+    rw (← e) (placed _ (p .ensures .0) (p .ensures .1))
 
 pub put-decimal-spec : {M : Type 1} → statement M
 put-decimal-spec =

@@ -1,6 +1,7 @@
 -- `text::put_word` meets its contract: the word's digits, and its separator behind them.
-use denote.Ref.{now}
-use Rattle.text.proofs.Rows.{word-placed}
+use mathlib.Core.List.{[], _∷_}
+use Rattle.text.specs.Put.{hex8}
+use Rattle.text.proofs.Placed.{placed, then}
 use borrow.Author.Needs.{needs}
 use Rattle.text.proofs.put.put_word.Statement.{statement}
 use Rattle.text.proofs.put.put_word.Tie as tie
@@ -18,12 +19,12 @@ same-length : tie.Need-same-length
 same-length c = search needs
 
 returns : tie.Need-returns
+unfolding hex8
 returns c =
     let a = c .before .before .before .before .before .before .before .before .before .before .args in
     let h = c .before .before .before .before .before .before .before .put-hex8 in
     let p = c .before .before .put-all in
-    word-placed (now (a .out)) (h .last .0) (p .last .0) (a .at) (h .result) (p .result) (a .w) (a .sep)
-    (h .ensures .0) (h .ensures .1) (p .ensures .0) (p .ensures .1)
+    then (h .kept .0) (placed (hex8 (a .w)) (h .ensures .0) (h .ensures .1)) (placed (a .sep ∷ []) (p .ensures .0) (p .ensures .1))
 
 pub put-word-spec : {M : Type 1} → statement M
 put-word-spec =

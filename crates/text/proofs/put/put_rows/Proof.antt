@@ -1,13 +1,12 @@
--- `text::put_row` meets its contract. The loop's invariant: the words from i on, put at `end`, are all that is left to do. The measure is
+-- `text::put_rows` meets its contract. The loop's invariant: the words from i on, put at `end`, are all that is left to do. The measure is
 -- their number.
 use borrow.Author.Needs.{needs}
-use native.Mathlib.Omega.{arith}
 use Prim.Native.Nat.{_-_}
 use lib.ListN.{length}
 use denote.Ref.{now}
 use Rattle.text.proofs.Rows.{Left, begun, step, done}
-use Rattle.text.proofs.put.put_row.Statement.{statement}
-use Rattle.text.proofs.put.put_row.Tie as tie
+use Rattle.text.proofs.put.put_rows.Statement.{statement}
+use Rattle.text.proofs.put.put_rows.Tie as tie
 
 abbrev Inv-loop : tie.InvT-loop
 Inv-loop out₀ at words end₀ i₀ out end i = Left words out₀ at out end i
@@ -57,8 +56,8 @@ returns c =
     let l = c .before .loop in
     done (now (a .words)) (now (a .out)) (a .at) (l .out) (l .end) (l .i) (l .inv) (search needs)
 
-pub put-row-spec : {M : Type 1} → statement M
-put-row-spec =
+pub put-rows-spec : {M : Type 1} → statement M
+put-rows-spec =
     tie.close
     (tie.spec
     Inv-loop

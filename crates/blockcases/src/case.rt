@@ -1,0 +1,142 @@
+// A case: a record with the answer that it must get.
+ghost use Prim.Native.Nat.{_<_};
+use translation::Sites;
+use translation::Translated;
+
+// Where the numbers of a case stand, in bytes: those of the answer follow each other from the fault's number on.
+pub const FAULT: usize = 4;
+
+pub const WORDS: usize = 12;
+
+const LENGTH: usize = 40;
+
+const RECORD: usize = 44;
+
+// Number, place, words, body offset, sites, and two sites.
+const NUMBERS: usize = 9;
+
+// What the lent words hold before the translation, so that a word that is left as it was can be told from one that is written.
+const BEFORE: u32 = 0x5a5a_5a5a;
+
+fn half(low: u8, high: u8) -> u32
+    ensures { λ r. ⌜ r < 65536 ⌝ }
+{
+    low as u32 + 256 * (high as u32)
+}
+
+// The number at a place, little-endian; 0 behind the end.
+pub fn number(case: &[u8], at: usize) -> u32 {
+    if case.len() < 4 {
+        return 0;
+    }
+    if case.len() - 4 < at {
+        return 0;
+    }
+    let low = half(case[at], case[at + 1]);
+    let high = half(case[at + 2], case[at + 3]);
+    low + 65536 * high
+}
+
+fn wide(n: u32) -> u64 {
+    n as u64
+}
+
+// An answer's numbers, in the order of a case.
+fn numbers(t: Translated) -> [u64; 9] {
+    match t {
+        Translated::Accepted(words, body, sites) => {
+            let w = wide(words);
+            let b = wide(body);
+            match sites {
+                Sites::None => [0, 0, w, b, 0, 0, 0, 0, 0],
+                Sites::One(s) => [0, 0, w, b, 1, wide(s.at), wide(s.target), 0, 0],
+                Sites::Two(s, t) => [
+                    0,
+                    0,
+                    w,
+                    b,
+                    2,
+                    wide(s.at),
+                    wide(s.target),
+                    wide(t.at),
+                    wide(t.target),
+                ],
+            }
+        }
+        Translated::Refused(number, place) => [wide(number), place as u64, 0, 0, 0, 0, 0, 0, 0],
+    }
+}
+
+// The first place at which a case has another number than the answer, or NUMBERS.
+fn other_number(case: &[u8], got: [u64; 9]) -> usize {
+    let mut i = 0;
+    while i < NUMBERS {
+        if wide(number(case, FAULT + 4 * i)) != got[i] {
+            return i;
+        }
+        i += 1;
+    }
+    i
+}
+
+fn fill(words: &mut [u32]) {
+    let mut i = 0;
+    while i < words.len() {
+        words[i] = BEFORE;
+        i += 1;
+    }
+}
+
+// The first of the lent words that is not as it must be, or how many there are: `count` words from `from` on in the case, and `rest` behind
+// them.
+fn other_word(case: &[u8], from: usize, count: usize, rest: u32, words: &[u32]) -> usize {
+    let mut at = from;
+    let mut i = 0;
+    while i < words.len() {
+        let want = if i < count { number(case, at) } else { rest };
+        if words[i] != want {
+            return i;
+        }
+        at = std::num::wrapping_add_usize(at, 4);
+        i += 1;
+    }
+    i
+}
+
+pub enum Found {
+    At(usize),
+    Nothing,
+}
+
+// The first difference: its place among the numbers of the answer, or that of a word behind them.
+fn compare_lent(case: &[u8], words: &mut [u32]) -> Found {
+    let end = RECORD + number(case, LENGTH) as usize;
+    if case.len() < end {
+        return Found::At(NUMBERS);
+    }
+    fill(words);
+    let k = other_number(
+        case,
+        numbers(translation::translate(&case[RECORD..end], words)),
+    );
+    if k < NUMBERS {
+        return Found::At(k);
+    }
+    let count = number(case, WORDS) as usize;
+    let rest = if number(case, FAULT) == 0 { BEFORE } else { 0 };
+    let w = other_word(case, end, count, rest, words);
+    if w < words.len() {
+        return Found::At(std::num::wrapping_add_usize(NUMBERS, w));
+    }
+    Found::Nothing
+}
+
+// Lends as many words as the case says.
+pub fn compare(case: &[u8], words: &mut [u32]) -> Found {
+    let lent = number(case, 0) as usize;
+    let k = text::among(lent, words);
+    if k < lent {
+        return Found::At(NUMBERS);
+    }
+    compare_lent(case, &mut words[..k])
+}
