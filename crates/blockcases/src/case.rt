@@ -109,7 +109,7 @@ pub enum Found {
 }
 
 // The first difference: its place among the numbers of the answer, or that of a word behind them.
-fn compare_lent(case: &[u8], words: &mut [u32]) -> Found {
+fn compare_lent(case: &[u8], words: &mut [u32], table: &mut [u64; 6152]) -> Found {
     let end = RECORD + number(case, LENGTH) as usize;
     if case.len() < end {
         return Found::At(NUMBERS);
@@ -117,7 +117,7 @@ fn compare_lent(case: &[u8], words: &mut [u32]) -> Found {
     fill(words);
     let k = other_number(
         case,
-        numbers(translation::translate(&case[RECORD..end], words)),
+        numbers(translation::translate(&case[RECORD..end], words, table)),
     );
     if k < NUMBERS {
         return Found::At(k);
@@ -132,11 +132,11 @@ fn compare_lent(case: &[u8], words: &mut [u32]) -> Found {
 }
 
 // Lends as many words as the case says.
-pub fn compare(case: &[u8], words: &mut [u32]) -> Found {
+pub fn compare(case: &[u8], words: &mut [u32], table: &mut [u64; 6152]) -> Found {
     let lent = number(case, 0) as usize;
     let k = text::among(lent, words);
     if k < lent {
         return Found::At(NUMBERS);
     }
-    compare_lent(case, &mut words[..k])
+    compare_lent(case, &mut words[..k], table)
 }

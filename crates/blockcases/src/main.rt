@@ -37,14 +37,14 @@ fn differs(t: Tally, place: usize) -> Tally {
 }
 
 // One more case.
-fn counted(t: Tally, case: &[u8], words: &mut [u32]) -> Tally {
+fn counted(t: Tally, case: &[u8], words: &mut [u32], table: &mut [u64; 6152]) -> Tally {
     let mut next = t;
     next.cases = plus(t.cases, 1);
     next.words = plus(t.words, case::number(case, case::WORDS) as u64);
     if 0 < case::number(case, case::FAULT) {
         next.refused = plus(t.refused, 1);
     }
-    match case::compare(case, words) {
+    match case::compare(case, words, table) {
         Found::At(place) => differs(next, place),
         Found::Nothing => next,
     }
@@ -65,7 +65,7 @@ fn read_case(case: &mut [u8]) -> usize {
 }
 
 // A proved loop has to end, and nothing says that the input does: so the loop counts its turns down, from a number that no run uses up.
-fn compare_all(case: &mut [u8], words: &mut [u32]) -> Tally {
+fn compare_all(case: &mut [u8], words: &mut [u32], table: &mut [u64; 6152]) -> Tally {
     let mut t = Tally {
         cases: 0,
         refused: 0,
@@ -80,7 +80,7 @@ fn compare_all(case: &mut [u8], words: &mut [u32]) -> Tally {
         if n == 0 {
             return t;
         }
-        t = counted(t, &case[..n], words);
+        t = counted(t, &case[..n], words, table);
         turns -= 1;
     }
     t
@@ -95,7 +95,8 @@ fn write_count(name: &[u8], n: u64) {
 fn main() {
     let mut case = [0u8; ROOM];
     let mut words = [0u32; LENT];
-    let t = compare_all(&mut case, &mut words);
+    let mut table = [0u64; 6152];
+    let t = compare_all(&mut case, &mut words, &mut table);
     write_count(b"cases ", t.cases);
     write_count(b"refused ", t.refused);
     write_count(b"words ", t.words);

@@ -11,7 +11,8 @@ const ROOM: usize = 147584;
 
 fn put_translation(out: &mut [u8], record: &[u8]) -> usize {
     let mut words = [0u32; LENT];
-    match translation::translate(record, &mut words) {
+    let mut table = [0u64; 6152];
+    match translation::translate(record, &mut words, &mut table) {
         Translated::Accepted(n, body, sites) => {
             let k = text::among(n as usize, &words);
             match sites {

@@ -1,12 +1,14 @@
 // What `compile` does: the opening words, the limit test, the operations, the common exit, and the end of the assembly.
 ghost use mathlib.Core.Path.{_≡_};
 ghost use mathlib.Core.List.{map};
+ghost use lib.ListN.{length};
 ghost use Rattle.block.specs.Checked.{Checked};
 ghost use Rattle.code.specs.Items.{ins as insItem, new as newItem, bind as bindItem};
 ghost use Rattle.code.specs.Tree.{nowhere};
 ghost use Rattle.lowering.specs.Cache.{emptyCache};
 ghost use Rattle.lowering.specs.Compile.{blockCode, blockWords, starts, targets};
 ghost use Rattle.lowering.specs.Steps.{blockSteps};
+ghost use Rattle.asm.specs.State.{tableRoom};
 ghost use Rattle.finish.specs.Whole.{laid, told};
 ghost use Rattle.lower.specs.Lowers.{atsOf, targetsOf};
 ghost use Rattle.compile.specs.Emitted.{Emits};
@@ -63,13 +65,20 @@ fn emit(out: &mut [u32], tab: &mut [u64; 6152], b: Block) -> Lowered
     Lowered { a, rc, sites }
 }
 
-// The words of a checked block in the lent slice, or zeros where they do not fit.
-pub fn compile(out: &mut [u32], b: Block) -> Compiled
+// What the table's type says, as a fact.
+fn sized(tab: &[u64; 6152])
+    ensures { λ r. ⌜ length (now (tab .entry)) ≡ tableRoom ⌝ }
+{
+    let whole: &[u64] = tab;
+}
+
+// The words of a checked block in the lent slice, or zeros where they do not fit. The table is working space: what it holds does not matter.
+pub fn compile(out: &mut [u32], tab: &mut [u64; 6152], b: Block) -> Compiled
     ensures { λ r. ⌜ (Checked b → (r .finished ≡ told (blockWords b) (now (out .entry))) × (now (out .exit) ≡ laid (blockWords b) (now (out .entry))) × (atsOf (r .sites) ≡ starts (blockCode b) 0) × (targetsOf (r .sites) ≡ targets (blockSteps b))) ⌝ }
 {
-    let mut tab: [u64; 6152] = [0; 6152];
-    let q = emit(out, &mut tab, b);
+    sized(tab);
+    let q = emit(out, tab, b);
     let sites = q.sites;
-    let finished = finish::finish(out, &tab, q.a);
+    let finished = finish::finish(out, tab, q.a);
     Compiled { finished, sites }
 }

@@ -47,7 +47,7 @@ fn listed_sites(s: lower::Sites) -> Sites
 }
 
 // The words of an accepted record's block, those beyond untouched; or the first fault, and every lent word 0.
-pub fn translate(bytes: &[u8], words: &mut [u32]) -> Translated
+pub fn translate(bytes: &[u8], words: &mut [u32], table: &mut [u64; 6152]) -> Translated
     ensures { λ r. ⌜ told r ≡ translation (now (bytes .entry)) (now (words .entry)) ⌝ }
     ensures { λ r. ⌜ now (words .exit) ≡ lentAfter (now (bytes .entry)) (now (words .entry)) ⌝ }
     ensures { λ r. ⌜ Sited (told r) ⌝ }
@@ -61,7 +61,7 @@ pub fn translate(bytes: &[u8], words: &mut [u32]) -> Translated
             Translated::Refused(number, place)
         }
         Answer::Accepted => {
-            let c = compile::compile(words, reading.block);
+            let c = compile::compile(words, table, reading.block);
             let finished = c.finished;
             match finished {
                 Finished::Words(n) => Translated::Accepted(n, BODY, listed_sites(c.sites)),

@@ -6,10 +6,10 @@ use Rattle.blockcases.proofs.compare_all.Statement.{statement}
 use Rattle.blockcases.proofs.compare_all.Tie as tie
 
 abbrev Inv-loop : tie.InvT-loop
-Inv-loop case₀ words₀ t₀ turns₀ case words t turns = (length case ≡ length case₀) × (length words ≡ length words₀)
+Inv-loop case₀ words₀ table₀ t₀ turns₀ case words table t turns = (length case ≡ length case₀) × (length words ≡ length words₀)
 
 abbrev μ-loop : tie.MeasureT-loop
-μ-loop case₀ words₀ t₀ turns₀ case words t turns = turns
+μ-loop case₀ words₀ table₀ t₀ turns₀ case words table t turns = turns
 
 loop-holds : tie.Need-loop-holds Inv-loop μ-loop
 loop-holds c = (refl, refl)

@@ -9,12 +9,13 @@ same-length c = c .before .before .finish .kept .0 ∙ c .before .before .before
 
 returns : tie.Need-returns
 returns c = λ ck.
-    let h = c .before .before .before .before .before .before .before .before .emit .ensures in (
-      c .before .before .finish .ensures .0 ∙ told-is _ ck _ _ _ _ (search needs) _ h,
-      c .before .before .finish .ensures .1 ∙ words-are _ ck _ _ _ _ (search needs) _ h,
-      ats-are _ ck _ _ _ _ (search needs) _ h,
-      targets-are _ ck _ _ _ _ (search needs) _ h,
+    let h = c .before .before .before .before .before .before .before .before .emit .ensures in
+    let full = c .before .before .before .before .before .before .before .before .before .before .before .sized .ensures in (
+      c .before .before .finish .ensures .0 ∙ told-is _ ck _ _ _ _ full _ h,
+      c .before .before .finish .ensures .1 ∙ words-are _ ck _ _ _ _ full _ h,
+      ats-are _ ck _ _ _ _ full _ h,
+      targets-are _ ck _ _ _ _ full _ h,
     )
 
 pub compile-spec : {M : Type 1} → statement M
-compile-spec = tie.close (tie.spec (λ c κs. search needs) (λ c κs. search needs) same-length returns)
+compile-spec = tie.close (tie.spec (λ c κs. search needs) (λ c κs. search needs) (λ c κs. search needs) same-length returns)
