@@ -38,12 +38,9 @@ unfolding answerIf
 fails true i e = absurd (let z : _≡_ {A = ℕ} 0 1 = cc in omega arith)
 fails false i e = refl
 
--- the word of an answer, by its cases
-pub is-word : (i : Instr) (r : Encoded) (w : ℕ) → r ≡ answer i → r ≡ Word w → w ≡ wordOf (answer i)
-is-word i r w h e = ap wordOf (sym e ∙ h)
-
-pub no-word : (i : Instr) (r : Encoded) (n : ℕ) → r ≡ answer i → r ≡ Refused n → 0 ≡ wordOf (answer i)
-no-word i r n h e = ap wordOf (sym e ∙ h)
+-- the word of a class's answer
+pub class-word : (i : Instr) (e : Encoded) (w : ℕ) → w ≡ wordOf e → Answers i e → w ≡ wordOf (answer i)
+class-word i e w h a = h ∙ ap wordOf (answers-is i e a)
 
 -- an answer for an operand is the answer for what the operand is
 pub with : {A : Type 0} (f : A → Encoded) {x y : A} {r : Encoded} → r ≡ f x → x ≡ y → r ≡ f y

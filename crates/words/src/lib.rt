@@ -6,9 +6,23 @@ use arm::Instr;
 mod classes;
 mod numbers;
 mod signed;
+mod single;
 
 pub use signed::reaches;
 pub use signed::twos;
+pub use single::add_sub_imm;
+pub use single::add_sub_shifted;
+pub use single::bitfield;
+pub use single::branch_reg;
+pub use single::cond_select;
+pub use single::logical_shifted;
+pub use single::memory_imm;
+pub use single::memory_pair;
+pub use single::memory_reg;
+pub use single::move_wide;
+pub use single::one_source;
+pub use single::three_source;
+pub use single::two_source;
 
 // What an encoder answers: the word, or the number of the fault.
 pub enum Encoded {
@@ -76,12 +90,18 @@ pub fn encode_if(ok: bool, i: Instr) -> Encoded
     Encoded::Refused(13)
 }
 
-// The word alone, and 0 where the instruction is refused.
-pub fn word(i: Instr) -> u32
-    ensures { λ r. ⌜ r ≡ wordOf (answer i) ⌝ }
+// The word alone, and 0 where there is none.
+fn word_of(e: Encoded) -> u32
+    ensures { λ r. ⌜ r ≡ wordOf e ⌝ }
 {
-    match encode(i) {
+    match e {
         Encoded::Word(w) => w,
         Encoded::Refused(_) => 0,
     }
+}
+
+pub fn word(i: Instr) -> u32
+    ensures { λ r. ⌜ r ≡ wordOf (answer i) ⌝ }
+{
+    word_of(encode(i))
 }
