@@ -1,11 +1,12 @@
 // The register cache of a block (RegCache in the Rust), by value: eight host registers that hold guest registers.
 ghost use mathlib.Core.Path.{_≡_};
 ghost use Prim.Native.Nat.{_/_, _<_};
+ghost use Rattle.arm.specs.declared.Instr.the-variants.{MemoryImm};
 ghost use Rattle.lowering.specs.Cache.{host as hostOf, offReg, oldest as oldestOf, touch as touched, assign as assigned, mark as marked};
 ghost use Rattle.lowering.specs.Instrs.{CPU, mov as movOf};
+ghost use Rattle.words.specs.Answers.{answer, wordOf};
 ghost use Rattle.cache.specs.Lookup.{lookup, Took};
 use arm::Access;
-use arm::Instr;
 use arm::Logic;
 use arm::Second;
 use arm::Shift;
@@ -21,9 +22,9 @@ pub enum Found {
     Nothing,
 }
 
-// What giving up a slot costs.
+// What giving up a slot costs: a host register is stored, at an offset in words.
 pub enum Spill {
-    Store(Instr),
+    Store(u32, u32),
     Nothing,
 }
 
@@ -32,10 +33,11 @@ pub struct Taken {
     pub spill: Spill,
 }
 
-pub fn mov(rd: u32, rm: u32) -> Instr
-    ensures { λ i. ⌜ i ≡ movOf rd rm ⌝ }
+// The word of a move.
+pub fn mov(rd: u32, rm: u32) -> u32
+    ensures { λ r. ⌜ r ≡ wordOf (answer (movOf rd rm)) ⌝ }
 {
-    Instr::LogicalShifted(
+    words::logical_shifted(
         Size::W,
         Logic::Orr,
         Second::Plain,
@@ -47,17 +49,17 @@ pub fn mov(rd: u32, rm: u32) -> Instr
     )
 }
 
-// A word at a byte offset that is a multiple of 4, counted in words.
-pub fn ldr(rt: u32, words: u32) -> Instr
-    ensures { λ i. ⌜ i ≡ Instr.MemoryImm Access.LdrW words CPU rt ⌝ }
+// The words of a load and of a store in the processor record, at an offset in words.
+pub fn ldr(rt: u32, at: u32) -> u32
+    ensures { λ r. ⌜ r ≡ wordOf (answer (MemoryImm Access.LdrW at CPU rt)) ⌝ }
 {
-    Instr::MemoryImm(Access::LdrW, words, 19, rt)
+    words::memory_imm(Access::LdrW, at, 19, rt)
 }
 
-pub fn str(rt: u32, words: u32) -> Instr
-    ensures { λ i. ⌜ i ≡ Instr.MemoryImm Access.StrW words CPU rt ⌝ }
+pub fn str(rt: u32, at: u32) -> u32
+    ensures { λ r. ⌜ r ≡ wordOf (answer (MemoryImm Access.StrW at CPU rt)) ⌝ }
 {
-    Instr::MemoryImm(Access::StrW, words, 19, rt)
+    words::memory_imm(Access::StrW, at, 19, rt)
 }
 
 pub fn host(i: usize) -> u32
@@ -159,7 +161,7 @@ pub fn take_slot(lay: Layout, rc: RegCache) -> Taken
     if rc.dirty[i] {
         return Taken {
             i,
-            spill: Spill::Store(str(host(i), off_reg(lay, rc.guest[i]))),
+            spill: Spill::Store(host(i), off_reg(lay, rc.guest[i])),
         };
     }
     Taken {

@@ -1,6 +1,8 @@
 use borrow.Author.Needs.{needs}
 use mathlib.Core.Path.{_≡_, sym, ap, _∙_}
 use mathlib.Core.List.{[], _∷_}
+use Rattle.arm.specs.declared.Access.the-variants.{StrW}
+use Rattle.arm.specs.declared.Instr.the-variants.{MemoryImm}
 use Rattle.lowering.specs.Instrs.{CPU, str}
 use lib.ListN.{getD}
 use Rattle.lowering.specs.Cache.{host, FREE, offReg}
@@ -39,17 +41,15 @@ element-copy-out-off-reg c = search needs
 off-reg-requires : tie.Need-off-reg-requires
 off-reg-requires c κs = search needs
 
-str-requires : tie.Need-str-requires
-str-requires c κs = search needs
-
 returns-2 : tie.Need-returns-2
 returns-2 c =
-    let e = sym (c .before .before .before .before .before .before .before .enum-told .given .1) ∙ c .before .before .before .before .before .before .before .before .before .slot .ensures in
-    let lay = c .before .before .before .before .before .before .before .before .before .before .args .lay in
-    let rc = c .before .before .before .before .before .before .before .before .before .before .args .t2 in
-    let old = c .before .before .before .before .before .before .oldest .ensures in
-    let word : c .str .result ≡ str (host (c .before .before .before .before .before .before .oldest .result)) CPU (offReg lay (getD (rc .guest) (c .before .before .before .before .before .before .oldest .result) 0)) = cc (c .str .ensures, c .before .off-reg .ensures, c .before .before .before .host .ensures) in
-    record { chose = old-chosen lay rc _ e (old .0); small = old .1; spills = ap (λ i. i ∷ []) word ∙ dirty-spill lay rc _ e (old .0) (c .before .before .before .before .if1 .taken) }
+    let o = c .before .before .before .before .before in
+    let e = sym (o .before .enum-told .given .1) ∙ o .before .before .before .slot .ensures in
+    let lay = o .before .before .before .before .args .lay in
+    let rc = o .before .before .before .before .args .t2 in
+    let old = o .oldest .ensures in
+    let store : MemoryImm StrW (c .off-reg .result) CPU (c .before .before .host .result) ≡ str (host (o .oldest .result)) CPU (offReg lay (getD (rc .guest) (o .oldest .result) 0)) = cc (c .off-reg .ensures, c .before .before .host .ensures) in
+    record { chose = old-chosen lay rc _ e (old .0); small = old .1; spills = ap (λ i. i ∷ []) store ∙ dirty-spill lay rc _ e (old .0) (c .before .before .before .if1 .taken) }
 
 returns-3 : tie.Need-returns-3
 returns-3 c =
@@ -72,6 +72,5 @@ take-slot-spec =
     host-requires
     element-copy-out-off-reg
     off-reg-requires
-    str-requires
     returns-2
     returns-3)
