@@ -3,14 +3,10 @@ ghost use mathlib.Core.Path.{_≡_};
 ghost use Prim.Native.Nat.{_/_, _<_};
 ghost use Rattle.arm.specs.declared.Instr.the-variants.{MemoryImm};
 ghost use Rattle.lowering.specs.Cache.{host as hostOf, offReg, oldest as oldestOf, touch as touched, assign as assigned, mark as marked};
-ghost use Rattle.lowering.specs.Instrs.{CPU, mov as movOf};
+ghost use Rattle.lowering.specs.Instrs.{CPU};
 ghost use Rattle.words.specs.Answers.{answer, wordOf};
 ghost use Rattle.cache.specs.Lookup.{lookup, Took};
 use arm::Access;
-use arm::Logic;
-use arm::Second;
-use arm::Shift;
-use arm::Size;
 use block::Layout;
 use lowering::RegCache;
 
@@ -31,22 +27,6 @@ pub enum Spill {
 pub struct Taken {
     pub i: usize,
     pub spill: Spill,
-}
-
-// The word of a move.
-pub fn mov(rd: u32, rm: u32) -> u32
-    ensures { λ r. ⌜ r ≡ wordOf (answer (movOf rd rm)) ⌝ }
-{
-    words::logical_shifted(
-        Size::W,
-        Logic::Orr,
-        Second::Plain,
-        Shift::Lsl,
-        rm,
-        0,
-        31,
-        rd,
-    )
 }
 
 // The words of a load and of a store in the processor record, at an offset in words.

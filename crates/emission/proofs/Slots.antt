@@ -35,9 +35,9 @@ pub slot-free : (lay : Layout) (h g : ℕ) (d : Bool) (s : State) → d ≡ true
 unfolding emitted runT
 slot-free lay h g d s e f = rw (e, eq-eqb g FREE f)
 
-pub slot-stored : (lay : Layout) (h g : ℕ) (d : Bool) (s s₁ : State) (i : Instr) (k : ℕ) → d ≡ true → (g ≡ FREE → ⊥) → i ≡ MemoryImm StrW k CPU h → k ≡ offReg lay g / 4 → s₁ ≡ emitted (i ∷ []) s → s₁ ≡ emitted (flushed lay h g d) s
+pub slot-stored : (lay : Layout) (h g : ℕ) (d : Bool) (s s₁ : State) (k : ℕ) → d ≡ true → (g ≡ FREE → ⊥) → k ≡ offReg lay g / 4 → s₁ ≡ emitted (MemoryImm StrW k CPU h ∷ []) s → s₁ ≡ emitted (flushed lay h g d) s
 unfolding emitted runT
-slot-stored lay h g d s s₁ i k e n f o p = rw (e, ne-eqb g FREE n) (p ∙ ap (λ j. emitted (j ∷ []) s) (f ∙ ap (λ j. MemoryImm StrW j CPU h) o))
+slot-stored lay h g d s s₁ k e n o p = rw (e, ne-eqb g FREE n) (p ∙ ap (λ j. emitted (MemoryImm StrW j CPU h ∷ []) s) o)
 
 -- ---- all slots
 run-pick : (lay : Layout) (h g : ℕ) (is : List Instr) (u : Bool) (s : State)
@@ -69,9 +69,9 @@ pub load-free : (lay : Layout) (h g : ℕ) (s : State) → g ≡ FREE → s ≡ 
 unfolding emitted runT
 load-free lay h g s e = rw (eq-eqb g FREE e)
 
-pub load-held : (lay : Layout) (h g : ℕ) (s s₁ : State) (i : Instr) (k : ℕ) → (g ≡ FREE → ⊥) → i ≡ MemoryImm LdrW k CPU h → k ≡ offReg lay g / 4 → s₁ ≡ emitted (i ∷ []) s → s₁ ≡ emitted (reloaded lay h g) s
+pub load-held : (lay : Layout) (h g : ℕ) (s s₁ : State) (k : ℕ) → (g ≡ FREE → ⊥) → k ≡ offReg lay g / 4 → s₁ ≡ emitted (MemoryImm LdrW k CPU h ∷ []) s → s₁ ≡ emitted (reloaded lay h g) s
 unfolding emitted runT
-load-held lay h g s s₁ i k n f o p = rw (ne-eqb g FREE n) (p ∙ ap (λ j. emitted (j ∷ []) s) (f ∙ ap (λ j. MemoryImm LdrW j CPU h) o))
+load-held lay h g s s₁ k n o p = rw (ne-eqb g FREE n) (p ∙ ap (λ j. emitted (MemoryImm LdrW j CPU h ∷ []) s) o)
 
 load-pick : (lay : Layout) (h g : ℕ) (is : List Instr) (u : Bool) (s : State)
     → emitted (pick u is (ldr h CPU (offReg lay g) ∷ is)) s ≡ emitted is (emitted (pick u [] (ldr h CPU (offReg lay g) ∷ [])) s)

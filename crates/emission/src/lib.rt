@@ -2,11 +2,19 @@
 ghost use mathlib.Core.Path.{_≡_};
 ghost use mathlib.Core.List.{List, [], _∷_};
 ghost use Prim.Native.Nat.{ℕ, _+_, _<_, _≤_};
+ghost use Rattle.arm.specs.declared.Instr.{Instr};
+ghost use Rattle.lowering.specs.Instrs.{mov as movOf, movX, addI, cmp as cmpOf};
 ghost use Rattle.lowering.specs.Cache.{flush as flushOf, reload as reloadOf, seated, stored, ldReg, stReg};
+ghost use Rattle.words.specs.Answers.{answer, wordOf};
 ghost use Rattle.cache.specs.Lookup.{spilled};
 ghost use Rattle.asm.specs.State.{state};
 ghost use Rattle.emission.specs.Total.{emitted, flushed, reloaded};
-use arm::Instr;
+use arm::AddSub;
+use arm::Flags;
+use arm::Logic;
+use arm::Second;
+use arm::Shift;
+use arm::Size;
 use asm::Asm;
 use block::Layout;
 use cache::Found;
@@ -19,11 +27,73 @@ pub struct Held {
     pub rc: RegCache,
 }
 
-// One instruction, and the word 0 for one that no word carries.
-pub fn ins(out: &mut [u32], tab: &mut [u64; 6152], a: Asm, i: Instr) -> Asm
-    ensures { λ r. ⌜ state (now (out .exit)) (now (tab .exit)) r ≡ emitted (i ∷ []) (state (now (out .entry)) (now (tab .entry)) a) ⌝ }
+// One instruction by its word, which is 0 for one that no word carries.
+pub fn ins(out: &mut [u32], tab: &mut [u64; 6152], a: Asm, w: u32) -> Asm
+    ensures { λ r. ⌜ ((i : Instr) → w ≡ wordOf (answer i) → state (now (out .exit)) (now (tab .exit)) r ≡ emitted (i ∷ []) (state (now (out .entry)) (now (tab .entry)) a)) ⌝ }
 {
-    asm::emit(out, tab, a, words::word(i))
+    asm::emit(out, tab, a, w)
+}
+
+pub fn mov(out: &mut [u32], tab: &mut [u64; 6152], a: Asm, rd: u32, rm: u32) -> Asm
+    ensures { λ r. ⌜ state (now (out .exit)) (now (tab .exit)) r ≡ emitted (movOf rd rm ∷ []) (state (now (out .entry)) (now (tab .entry)) a) ⌝ }
+{
+    ins(
+        out,
+        tab,
+        a,
+        words::logical_shifted(
+            Size::W,
+            Logic::Orr,
+            Second::Plain,
+            Shift::Lsl,
+            rm,
+            0,
+            31,
+            rd,
+        ),
+    )
+}
+
+pub fn mov_x(out: &mut [u32], tab: &mut [u64; 6152], a: Asm, rd: u32, rm: u32) -> Asm
+    ensures { λ r. ⌜ state (now (out .exit)) (now (tab .exit)) r ≡ emitted (movX rd rm ∷ []) (state (now (out .entry)) (now (tab .entry)) a) ⌝ }
+{
+    ins(
+        out,
+        tab,
+        a,
+        words::logical_shifted(
+            Size::X,
+            Logic::Orr,
+            Second::Plain,
+            Shift::Lsl,
+            rm,
+            0,
+            31,
+            rd,
+        ),
+    )
+}
+
+pub fn add_imm(out: &mut [u32], tab: &mut [u64; 6152], a: Asm, rd: u32, rn: u32, imm: u32) -> Asm
+    ensures { λ r. ⌜ state (now (out .exit)) (now (tab .exit)) r ≡ emitted (addI rd rn imm ∷ []) (state (now (out .entry)) (now (tab .entry)) a) ⌝ }
+{
+    ins(
+        out,
+        tab,
+        a,
+        words::add_sub_imm(Size::W, AddSub::Add, Flags::Keeps, imm, rn, rd),
+    )
+}
+
+pub fn cmp(out: &mut [u32], tab: &mut [u64; 6152], a: Asm, rn: u32, rm: u32) -> Asm
+    ensures { λ r. ⌜ state (now (out .exit)) (now (tab .exit)) r ≡ emitted (cmpOf rn rm ∷ []) (state (now (out .entry)) (now (tab .entry)) a) ⌝ }
+{
+    ins(
+        out,
+        tab,
+        a,
+        words::add_sub_shifted(Size::W, AddSub::Sub, Flags::Sets, Shift::Lsl, rm, 0, rn, 31),
+    )
 }
 
 // What host register h holds is stored, if it is changed and a guest register.
@@ -90,7 +160,7 @@ fn spill(out: &mut [u32], tab: &mut [u64; 6152], a: Asm, s: Spill) -> Asm
     ensures { λ r. ⌜ state (now (out .exit)) (now (tab .exit)) r ≡ emitted (spilled s) (state (now (out .entry)) (now (tab .entry)) a) ⌝ }
 {
     match s {
-        Spill::Store(i) => ins(out, tab, a, i),
+        Spill::Store(h, at) => ins(out, tab, a, cache::str(h, at)),
         Spill::Nothing => a,
     }
 }
@@ -109,7 +179,7 @@ pub fn ld_reg(
 {
     let found = cache::slot(rc, r);
     if let Found::At(i) = found {
-        let moved = ins(out, tab, a, cache::mov(t, cache::host(i)));
+        let moved = mov(out, tab, a, t, cache::host(i));
         return Held {
             a: moved,
             rc: cache::touch(rc, i),
@@ -121,7 +191,7 @@ pub fn ld_reg(
     let s = taken.spill;
     let freed = spill(out, tab, a, s);
     let filled = ins(out, tab, freed, cache::ldr(h, cache::off_reg(lay, r)));
-    let moved = ins(out, tab, filled, cache::mov(t, h));
+    let moved = mov(out, tab, filled, t, h);
     Held {
         a: moved,
         rc: cache::assign(rc, i, r),
@@ -142,7 +212,7 @@ pub fn st_reg(
 {
     let found = cache::slot(rc, r);
     if let Found::At(i) = found {
-        let moved = ins(out, tab, a, cache::mov(cache::host(i), t));
+        let moved = mov(out, tab, a, cache::host(i), t);
         return Held {
             a: moved,
             rc: cache::mark(cache::touch(rc, i), i),
@@ -152,7 +222,7 @@ pub fn st_reg(
     let i = taken.i;
     let s = taken.spill;
     let freed = spill(out, tab, a, s);
-    let moved = ins(out, tab, freed, cache::mov(cache::host(i), t));
+    let moved = mov(out, tab, freed, cache::host(i), t);
     Held {
         a: moved,
         rc: cache::mark(cache::assign(rc, i, r), i),

@@ -4,7 +4,7 @@ use Rattle.emission.proofs.flush_slot.Statement.{statement}
 use Rattle.emission.proofs.flush_slot.Tie as tie
 
 returns : tie.Need-returns
-returns c = slot-stored (c .before .before .before .before .before .before .before .before .before .before .args .lay) (c .before .before .before .before .before .before .before .before .before .before .args .h) (c .before .before .before .before .before .before .before .before .before .before .args .g) (c .before .before .before .before .before .before .before .before .before .before .args .d) _ _ _ _ (c .before .before .before .before .before .before .before .before .if1 .taken) (c .before .before .before .before .before .before .before .if2 .taken) (c .before .before .before .str .ensures) (c .before .before .before .before .off-reg .ensures) (c .before .before .ins .ensures)
+returns c = slot-stored (c .before .before .before .before .before .before .before .before .before .before .args .lay) (c .before .before .before .before .before .before .before .before .before .before .args .h) (c .before .before .before .before .before .before .before .before .before .before .args .g) (c .before .before .before .before .before .before .before .before .before .before .args .d) _ _ _ (c .before .before .before .before .before .before .before .before .if1 .taken) (c .before .before .before .before .before .before .before .if2 .taken) (c .before .before .before .before .off-reg .ensures) (c .before .before .ins .ensures _ (c .before .before .before .str .ensures))
 
 returns-2 : tie.Need-returns-2
 returns-2 c = slot-free (c .before .before .before .args .lay) (c .before .before .before .args .h) (c .before .before .before .args .g) (c .before .before .before .args .d) _ (c .before .if1 .taken) (c .if2 .left)

@@ -4,7 +4,7 @@ use Rattle.emission.proofs.reload_slot.Statement.{statement}
 use Rattle.emission.proofs.reload_slot.Tie as tie
 
 returns : tie.Need-returns
-returns c = load-held (c .before .before .before .before .before .before .before .before .before .args .lay) (c .before .before .before .before .before .before .before .before .before .args .h) (c .before .before .before .before .before .before .before .before .before .args .g) _ _ _ _ (c .before .before .before .before .before .before .before .if1 .taken) (c .before .before .before .ldr .ensures) (c .before .before .before .before .off-reg .ensures) (c .before .before .ins .ensures)
+returns c = load-held (c .before .before .before .before .before .before .before .before .before .args .lay) (c .before .before .before .before .before .before .before .before .before .args .h) (c .before .before .before .before .before .before .before .before .before .args .g) _ _ _ (c .before .before .before .before .before .before .before .if1 .taken) (c .before .before .before .before .off-reg .ensures) (c .before .before .ins .ensures _ (c .before .before .before .ldr .ensures))
 
 returns-2 : tie.Need-returns-2
 returns-2 c = load-free (c .before .before .args .lay) (c .before .before .args .h) (c .before .before .args .g) _ (c .if1 .left)
