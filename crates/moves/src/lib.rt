@@ -3,7 +3,7 @@ ghost use mathlib.Core.Path.{_≡_};
 ghost use mathlib.Core.List.{List, [], _∷_, _++_};
 ghost use Prim.Native.Nat.{ℕ, _+_, _-_, _<_};
 ghost use Rattle.block.specs.Block.{bytes as bytesOf};
-ghost use Rattle.lowering.specs.Instrs.{mov32 as mov32Of, and as andOf};
+ghost use Rattle.lowering.specs.Instrs.{mov32 as mov32Of};
 ghost use Rattle.lowering.specs.Fragments.{addImm, even as evenOf, extended as extendedOf, loads as loadsOf, stores as storesOf};
 ghost use Rattle.asm.specs.State.{state};
 ghost use Rattle.emission.specs.Total.{emitted};
@@ -11,7 +11,6 @@ use arm::Access;
 use arm::AddSub;
 use arm::Extract;
 use arm::Flags;
-use arm::Instr;
 use arm::Logic;
 use arm::Move;
 use arm::Second;
@@ -31,22 +30,37 @@ pub fn mov32(out: &mut [u32], tab: &mut [u64; 6152], a: Asm, rd: u32, imm: u32) 
             out,
             tab,
             a,
-            Instr::MoveWide(Size::W, Move::Movz, 0, imm, rd),
+            words::move_wide(Size::W, Move::Movz, 0, imm, rd),
         );
     }
     if lo == 0 {
-        return emission::ins(out, tab, a, Instr::MoveWide(Size::W, Move::Movz, 1, hi, rd));
+        return emission::ins(
+            out,
+            tab,
+            a,
+            words::move_wide(Size::W, Move::Movz, 1, hi, rd),
+        );
     }
     if hi == 65535 {
         return emission::ins(
             out,
             tab,
             a,
-            Instr::MoveWide(Size::W, Move::Movn, 0, 65535 - lo, rd),
+            words::move_wide(Size::W, Move::Movn, 0, 65535 - lo, rd),
         );
     }
-    let a = emission::ins(out, tab, a, Instr::MoveWide(Size::W, Move::Movz, 0, lo, rd));
-    emission::ins(out, tab, a, Instr::MoveWide(Size::W, Move::Movk, 1, hi, rd))
+    let a = emission::ins(
+        out,
+        tab,
+        a,
+        words::move_wide(Size::W, Move::Movz, 0, lo, rd),
+    );
+    emission::ins(
+        out,
+        tab,
+        a,
+        words::move_wide(Size::W, Move::Movk, 1, hi, rd),
+    )
 }
 
 // The bytes of a width.
@@ -100,23 +114,16 @@ pub fn extended(out: &mut [u32], tab: &mut [u64; 6152], a: Asm, w: Width, signed
             out,
             tab,
             a,
-            Instr::Bitfield(Size::W, Extract::Sbfm, 0, 7, 0, 0),
+            words::bitfield(Size::W, Extract::Sbfm, 0, 7, 0, 0),
         ),
         Width::Half => emission::ins(
             out,
             tab,
             a,
-            Instr::Bitfield(Size::W, Extract::Sbfm, 0, 15, 0, 0),
+            words::bitfield(Size::W, Extract::Sbfm, 0, 15, 0, 0),
         ),
         Width::Word => a,
     }
-}
-
-// w3 = w3 & w2
-fn and332() -> Instr
-    ensures { λ i. ⌜ i ≡ andOf 3 3 2 ⌝ }
-{
-    Instr::LogicalShifted(Size::W, Logic::And, Second::Plain, Shift::Lsl, 2, 0, 3, 3)
 }
 
 // A halfword is the one at the address with its lowest bit cleared.
@@ -127,7 +134,12 @@ pub fn even(out: &mut [u32], tab: &mut [u64; 6152], a: Asm, w: Width) -> Asm
         Width::Byte => a,
         Width::Half => {
             let a = mov32(out, tab, a, 2, 0xffff_fffe);
-            emission::ins(out, tab, a, and332())
+            emission::ins(
+                out,
+                tab,
+                a,
+                words::logical_shifted(Size::W, Logic::And, Second::Plain, Shift::Lsl, 2, 0, 3, 3),
+            )
         }
         Width::Word => a,
     }
@@ -141,15 +153,10 @@ pub fn add_imm(out: &mut [u32], tab: &mut [u64; 6152], a: Asm, d: u32, s: u32, i
         if d == s {
             return a;
         }
-        return emission::ins(out, tab, a, cache::mov(d, s));
+        return emission::mov(out, tab, a, d, s);
     }
     if imm < 4096 {
-        return emission::ins(
-            out,
-            tab,
-            a,
-            Instr::AddSubImm(Size::W, AddSub::Add, Flags::Keeps, imm, s, d),
-        );
+        return emission::add_imm(out, tab, a, d, s, imm);
     }
     let neg = std::num::wrapping_sub_u32(0, imm);
     if neg < 4096 {
@@ -157,7 +164,7 @@ pub fn add_imm(out: &mut [u32], tab: &mut [u64; 6152], a: Asm, d: u32, s: u32, i
             out,
             tab,
             a,
-            Instr::AddSubImm(Size::W, AddSub::Sub, Flags::Keeps, neg, s, d),
+            words::add_sub_imm(Size::W, AddSub::Sub, Flags::Keeps, neg, s, d),
         );
     }
     let a = mov32(out, tab, a, 9, imm);
@@ -165,6 +172,6 @@ pub fn add_imm(out: &mut [u32], tab: &mut [u64; 6152], a: Asm, d: u32, s: u32, i
         out,
         tab,
         a,
-        Instr::AddSubShifted(Size::W, AddSub::Add, Flags::Keeps, Shift::Lsl, 9, 0, s, d),
+        words::add_sub_shifted(Size::W, AddSub::Add, Flags::Keeps, Shift::Lsl, 9, 0, s, d),
     )
 }

@@ -1,7 +1,5 @@
 use borrow.Author.Needs.{needs}
-use mathlib.Core.Path.{refl, sym, ap, _∙_}
-use mathlib.Core.List.{List, [], _∷_, _++_}
-use Rattle.lowering.specs.Instrs.{mov32}
+use mathlib.Core.Path.{refl, _∙_}
 use Rattle.lowering.specs.Fragments.{even}
 use Rattle.emission.proofs.After.{none, same, more}
 use Rattle.moves.proofs.Arms.{even-arm}
@@ -14,7 +12,7 @@ returns c = same _ _ _ _ (even-arm _ _ _ (c .enum-told .given .1) refl) (none _)
 
 returns-2 : tie.Need-returns-2
 unfolding even
-returns-2 c = same _ _ _ _ (even-arm _ _ _ (c .before .before .before .before .before .before .before .before .before .before .before .enum-told2 .given .1) (ap (λ i. mov32 2 4294967294 ++ (i ∷ [])) (c .before .before .before .and332 .ensures))) (more _ _ _ _ _ (c .before .before .before .before .before .before .before .before .mov32 .ensures) (c .before .before .ins .ensures))
+returns-2 c = same _ _ _ _ (even-arm _ _ _ (c .before .before .before .before .before .before .before .before .before .before .before .enum-told2 .given .1) refl) (more _ _ _ _ _ (c .before .before .before .before .before .before .before .before .mov32 .ensures) (c .before .before .ins .ensures _ (c .before .before .before .logical-shifted .ensures)))
 
 returns-3 : tie.Need-returns-3
 unfolding even
