@@ -2,7 +2,7 @@
 ghost use mathlib.Core.Path.{_≡_};
 ghost use mathlib.Core.List.{[], _∷_};
 ghost use Rattle.code.specs.Tree.{inner, outer, inside, nowhere};
-ghost use Rattle.lowering.specs.Instrs.{mov as movOf, movX, addI, sub as subOf, cmp as cmpOf, indexed as indexedOf};
+ghost use Rattle.lowering.specs.Instrs.{sub as subOf, indexed as indexedOf};
 ghost use Rattle.lowering.specs.Fragments.{tryRegion, oddTest, mapTest, call, load as loadOf, store as storeOf};
 ghost use Rattle.lowering.specs.Given.{given, placed};
 ghost use Rattle.asm.specs.State.{state};
@@ -12,11 +12,8 @@ use arm::Access;
 use arm::AddSub;
 use arm::Extract;
 use arm::Flags;
-use arm::Instr;
 use arm::Jump;
-use arm::Logic;
 use arm::Scale;
-use arm::Second;
 use arm::Shift;
 use arm::Size;
 use asm::Asm;
@@ -34,7 +31,7 @@ fn sub(out: &mut [u32], tab: &mut [u64; 6152], a: Asm, rd: u32, rn: u32, rm: u32
         out,
         tab,
         a,
-        Instr::AddSubShifted(
+        words::add_sub_shifted(
             Size::W,
             AddSub::Sub,
             Flags::Keeps,
@@ -44,68 +41,6 @@ fn sub(out: &mut [u32], tab: &mut [u64; 6152], a: Asm, rd: u32, rn: u32, rm: u32
             rn,
             rd,
         ),
-    )
-}
-
-fn cmp(out: &mut [u32], tab: &mut [u64; 6152], a: Asm, rn: u32, rm: u32) -> Asm
-    ensures { λ r. ⌜ state (now (out .exit)) (now (tab .exit)) r ≡ emitted (cmpOf rn rm ∷ []) (state (now (out .entry)) (now (tab .entry)) a) ⌝ }
-{
-    emission::ins(
-        out,
-        tab,
-        a,
-        Instr::AddSubShifted(Size::W, AddSub::Sub, Flags::Sets, Shift::Lsl, rm, 0, rn, 31),
-    )
-}
-
-fn mov(out: &mut [u32], tab: &mut [u64; 6152], a: Asm, rd: u32, rm: u32) -> Asm
-    ensures { λ r. ⌜ state (now (out .exit)) (now (tab .exit)) r ≡ emitted (movOf rd rm ∷ []) (state (now (out .entry)) (now (tab .entry)) a) ⌝ }
-{
-    emission::ins(
-        out,
-        tab,
-        a,
-        Instr::LogicalShifted(
-            Size::W,
-            Logic::Orr,
-            Second::Plain,
-            Shift::Lsl,
-            rm,
-            0,
-            31,
-            rd,
-        ),
-    )
-}
-
-fn mov_x(out: &mut [u32], tab: &mut [u64; 6152], a: Asm, rd: u32, rm: u32) -> Asm
-    ensures { λ r. ⌜ state (now (out .exit)) (now (tab .exit)) r ≡ emitted (movX rd rm ∷ []) (state (now (out .entry)) (now (tab .entry)) a) ⌝ }
-{
-    emission::ins(
-        out,
-        tab,
-        a,
-        Instr::LogicalShifted(
-            Size::X,
-            Logic::Orr,
-            Second::Plain,
-            Shift::Lsl,
-            rm,
-            0,
-            31,
-            rd,
-        ),
-    )
-}
-
-fn add_imm(out: &mut [u32], tab: &mut [u64; 6152], a: Asm, rd: u32, rn: u32, imm: u32) -> Asm
-    ensures { λ r. ⌜ state (now (out .exit)) (now (tab .exit)) r ≡ emitted (addI rd rn imm ∷ []) (state (now (out .entry)) (now (tab .entry)) a) ⌝ }
-{
-    emission::ins(
-        out,
-        tab,
-        a,
-        Instr::AddSubImm(Size::W, AddSub::Add, Flags::Keeps, imm, rn, rd),
     )
 }
 
@@ -125,7 +60,7 @@ fn indexed(
         out,
         tab,
         a,
-        Instr::MemoryReg(access, Scale::Unscaled, rm, rn, rt),
+        words::memory_reg(access, Scale::Unscaled, rm, rn, rt),
     )
 }
 
@@ -148,7 +83,7 @@ fn try_region(
     let a = sub(out, tab, a, 3, 0, 2);
     let a = moves::even(out, tab, a, w);
     let a = moves::mov32(out, tab, a, 2, moves::room(len, moves::bytes(w)));
-    let a = cmp(out, tab, a, 3, 2);
+    let a = emission::cmp(out, tab, a, 3, 2);
     let a = asm::b_cond(out, tab, a, 8, miss);
     let a = indexed(out, tab, a, moves::loads(w, signed), 0, reg, 3);
     asm::b(out, tab, a, done)
@@ -167,7 +102,7 @@ fn call_helper(
 {
     let a = emission::flush(out, tab, a, lay, rc);
     let a = asm::ldr_lit_x(out, tab, a, 9, f);
-    let a = emission::ins(out, tab, a, Instr::BranchReg(Jump::Blr, 9));
+    let a = emission::ins(out, tab, a, words::branch_reg(Jump::Blr, 9));
     emission::reload(out, tab, a, lay, rc)
 }
 
@@ -185,9 +120,9 @@ fn read(
 ) -> Asm
     ensures { λ r. ⌜ state (now (out .exit)) (now (tab .exit)) r ≡ afterT (byRead (placed lay) rc f w signed i) nowhere 0 (state (now (out .entry)) (now (tab .entry)) a) ⌝ }
 {
-    let a = mov(out, tab, a, 1, 0);
-    let a = mov_x(out, tab, a, 0, 20);
-    let a = add_imm(out, tab, a, 2, 26, i);
+    let a = emission::mov(out, tab, a, 1, 0);
+    let a = emission::mov_x(out, tab, a, 0, 20);
+    let a = emission::add_imm(out, tab, a, 2, 26, i);
     let a = moves::mov32(out, tab, a, 3, moves::bytes(w));
     let a = call_helper(out, tab, a, lay, rc, f);
     moves::extended(out, tab, a, w, signed)
@@ -262,7 +197,7 @@ fn map_test(out: &mut [u32], tab: &mut [u64; 6152], a: Asm, map: bool, slow: Lab
             out,
             tab,
             a,
-            Instr::Bitfield(Size::W, Extract::Ubfm, 2, 31, 3, 2),
+            words::bitfield(Size::W, Extract::Ubfm, 2, 31, 3, 2),
         );
         let a = indexed(out, tab, a, Access::Ldrb, 2, 25, 2);
         return asm::cbnz(out, tab, a, 2, slow);
@@ -286,7 +221,7 @@ fn store_ram(
     let a = moves::mov32(out, tab, a, 2, mem.ram_base);
     let a = sub(out, tab, a, 3, 0, 2);
     let a = moves::mov32(out, tab, a, 2, moves::room(mem.ram_len, moves::bytes(w)));
-    let a = cmp(out, tab, a, 3, 2);
+    let a = emission::cmp(out, tab, a, 3, 2);
     let a = asm::b_cond(out, tab, a, 8, slow);
     let a = map_test(out, tab, a, mem.map, slow);
     let a = indexed(out, tab, a, moves::stores(w), 1, 21, 3);
@@ -306,10 +241,10 @@ fn write(
 ) -> Asm
     ensures { λ r. ⌜ state (now (out .exit)) (now (tab .exit)) r ≡ afterT (byWrite (placed lay) rc f w i) nowhere 0 (state (now (out .entry)) (now (tab .entry)) a) ⌝ }
 {
-    let a = mov(out, tab, a, 2, 1);
-    let a = mov(out, tab, a, 1, 0);
-    let a = mov_x(out, tab, a, 0, 20);
-    let a = add_imm(out, tab, a, 3, 26, i);
+    let a = emission::mov(out, tab, a, 2, 1);
+    let a = emission::mov(out, tab, a, 1, 0);
+    let a = emission::mov_x(out, tab, a, 0, 20);
+    let a = emission::add_imm(out, tab, a, 3, 26, i);
     let a = moves::mov32(out, tab, a, 4, moves::bytes(w));
     call_helper(out, tab, a, lay, rc, f)
 }

@@ -16,10 +16,10 @@ returns c =
     let c₃ = c .before .before in
     let c₂ = c₃ .before .before .before .before .before in
     let c₁ = c₂ .before .before .before .before .before in
-    with-map _ _ _ _ _ _ (c₁ .before .before .before .if1 .taken) (c₁ .ins .ensures) (c₂ .indexed .ensures) (c₃ .cbnz .ensures)
+    with-map _ _ _ _ _ _ (c₁ .before .before .before .before .if1 .taken) (c₁ .ins .ensures _ (c₁ .before .bitfield .ensures)) (c₂ .indexed .ensures) (c₃ .cbnz .ensures)
 
 returns-2 : tie.Need-returns-2
 returns-2 c = no-map _ _ _ (c .if1 .left)
 
 pub map-test-spec : {M : Type 1} → statement M
-map-test-spec = tie.close (tie.spec (λ c κs. search needs) (λ c κs. search needs) (λ c κs. search needs) same-length returns returns-2)
+map-test-spec = tie.close (tie.spec (λ c κs. search needs) (λ c κs. search needs) (λ c κs. search needs) (λ c κs. search needs) same-length returns returns-2)

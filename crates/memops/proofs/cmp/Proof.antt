@@ -1,6 +1,0 @@
-use borrow.Author.Needs.{needs}
-use Rattle.memops.proofs.cmp.Statement.{statement}
-use Rattle.memops.proofs.cmp.Tie as tie
-
-pub cmp-spec : {M : Type 1} → statement M
-cmp-spec = tie.close (tie.spec (λ c κs. search needs) (λ c. search needs) (λ c. c .before .before .ins .ensures))

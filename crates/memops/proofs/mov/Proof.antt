@@ -1,6 +1,0 @@
-use borrow.Author.Needs.{needs}
-use Rattle.memops.proofs.mov.Statement.{statement}
-use Rattle.memops.proofs.mov.Tie as tie
-
-pub mov-spec : {M : Type 1} → statement M
-mov-spec = tie.close (tie.spec (λ c κs. search needs) (λ c. search needs) (λ c. c .before .before .ins .ensures))
