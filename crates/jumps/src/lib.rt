@@ -2,11 +2,13 @@
 ghost use mathlib.Core.Path.{_≡_};
 ghost use mathlib.Core.List.{List, [], _∷_};
 ghost use Prim.Native.Nat.{ℕ, _<_};
+ghost use Rattle.arm.specs.declared.Instr.{Instr};
 ghost use Rattle.code.specs.Tree.{Depth, Var, inside, nowhere};
 ghost use Rattle.lowering.specs.declared.RegCache.{RegCache};
-ghost use Rattle.lowering.specs.Instrs.{mov as movOf, movX, addI, cmp as cmpOf, str as strOf, ldr as ldrOf, frame as frameOf};
+ghost use Rattle.lowering.specs.Instrs.{str as strOf, ldr as ldrOf, frame as frameOf};
 ghost use Rattle.lowering.specs.Fragments.{brkFirst, hold as holdOf, exitImm, chain as chainOf, ind as indOf, checkBrk, fork as forkOf, limit as limitOf, opening as openingOf, closing as closingOf};
 ghost use Rattle.lowering.specs.Given.{placed};
+ghost use Rattle.words.specs.Answers.{answer, wordOf};
 ghost use Rattle.asm.specs.State.{state};
 ghost use Rattle.emission.specs.Total.{emitted, afterT, startsT};
 ghost use Rattle.jumps.specs.Parts.{tabled, leave as leaveOf, back as backOf, lookup as lookupOf, saves as savesOf, arguments as argumentsOf};
@@ -14,13 +16,10 @@ use arm::Access;
 use arm::AddSub;
 use arm::Extract;
 use arm::Flags;
-use arm::Instr;
 use arm::Jump;
-use arm::Logic;
 use arm::Mode;
 use arm::Move;
 use arm::Pair;
-use arm::Second;
 use arm::Shift;
 use arm::Size;
 use asm::Asm;
@@ -72,78 +71,26 @@ pub struct Forked {
     pub target_at: u32,
 }
 
-fn mov(out: &mut [u32], tab: &mut [u64; 6152], a: Asm, rd: u32, rm: u32) -> Asm
-    ensures { λ r. ⌜ state (now (out .exit)) (now (tab .exit)) r ≡ emitted (movOf rd rm ∷ []) (state (now (out .entry)) (now (tab .entry)) a) ⌝ }
-{
-    emission::ins(
-        out,
-        tab,
-        a,
-        Instr::LogicalShifted(
-            Size::W,
-            Logic::Orr,
-            Second::Plain,
-            Shift::Lsl,
-            rm,
-            0,
-            31,
-            rd,
-        ),
-    )
-}
-
-fn mov_x(out: &mut [u32], tab: &mut [u64; 6152], a: Asm, rd: u32, rm: u32) -> Asm
-    ensures { λ r. ⌜ state (now (out .exit)) (now (tab .exit)) r ≡ emitted (movX rd rm ∷ []) (state (now (out .entry)) (now (tab .entry)) a) ⌝ }
-{
-    emission::ins(
-        out,
-        tab,
-        a,
-        Instr::LogicalShifted(
-            Size::X,
-            Logic::Orr,
-            Second::Plain,
-            Shift::Lsl,
-            rm,
-            0,
-            31,
-            rd,
-        ),
-    )
-}
-
-fn add_imm(out: &mut [u32], tab: &mut [u64; 6152], a: Asm, rd: u32, rn: u32, imm: u32) -> Asm
-    ensures { λ r. ⌜ state (now (out .exit)) (now (tab .exit)) r ≡ emitted (addI rd rn imm ∷ []) (state (now (out .entry)) (now (tab .entry)) a) ⌝ }
-{
-    emission::ins(
-        out,
-        tab,
-        a,
-        Instr::AddSubImm(Size::W, AddSub::Add, Flags::Keeps, imm, rn, rd),
-    )
-}
-
-fn cmp(out: &mut [u32], tab: &mut [u64; 6152], a: Asm, rn: u32, rm: u32) -> Asm
-    ensures { λ r. ⌜ state (now (out .exit)) (now (tab .exit)) r ≡ emitted (cmpOf rn rm ∷ []) (state (now (out .entry)) (now (tab .entry)) a) ⌝ }
-{
-    emission::ins(
-        out,
-        tab,
-        a,
-        Instr::AddSubShifted(Size::W, AddSub::Sub, Flags::Sets, Shift::Lsl, rm, 0, rn, 31),
-    )
-}
-
 fn ldr(out: &mut [u32], tab: &mut [u64; 6152], a: Asm, rt: u32, rn: u32, off: u32) -> Asm
     ensures { λ r. ⌜ state (now (out .exit)) (now (tab .exit)) r ≡ emitted (ldrOf rt rn off ∷ []) (state (now (out .entry)) (now (tab .entry)) a) ⌝ }
 {
-    emission::ins(out, tab, a, Instr::MemoryImm(Access::LdrW, off / 4, rn, rt))
+    emission::ins(
+        out,
+        tab,
+        a,
+        words::memory_imm(Access::LdrW, off / 4, rn, rt),
+    )
 }
 
 fn str(out: &mut [u32], tab: &mut [u64; 6152], a: Asm, rt: u32, rn: u32, off: u32) -> Asm
     ensures { λ r. ⌜ state (now (out .exit)) (now (tab .exit)) r ≡ emitted (strOf rt rn off ∷ []) (state (now (out .entry)) (now (tab .entry)) a) ⌝ }
 {
-    emission::ins(out, tab, a, Instr::MemoryImm(Access::StrW, off / 4, rn, rt))
+    emission::ins(
+        out,
+        tab,
+        a,
+        words::memory_imm(Access::StrW, off / 4, rn, rt),
+    )
 }
 
 // Two registers at sp, in units of eight bytes.
@@ -159,15 +106,20 @@ fn pair(
 ) -> Asm
     ensures { λ r. ⌜ state (now (out .exit)) (now (tab .exit)) r ≡ emitted (frameOf mode pair imm rt rt2 ∷ []) (state (now (out .entry)) (now (tab .entry)) a) ⌝ }
 {
-    emission::ins(out, tab, a, Instr::MemoryPair(mode, pair, imm, rt2, SP, rt))
+    emission::ins(
+        out,
+        tab,
+        a,
+        words::memory_pair(mode, pair, imm, rt2, SP, rt),
+    )
 }
 
-// A store, and out with the count of operations done.
-fn leave(out: &mut [u32], tab: &mut [u64; 6152], a: Asm, store: Instr) -> Asm
-    ensures { λ r. ⌜ ((n : Depth) (e : Var n → ℕ) → state (now (out .exit)) (now (tab .exit)) r ≡ afterT (leaveOf store) e 0 (state (now (out .entry)) (now (tab .entry)) a)) ⌝ }
+// A store, by its word, and out with the count of operations done.
+fn leave(out: &mut [u32], tab: &mut [u64; 6152], a: Asm, store: u32) -> Asm
+    ensures { λ r. ⌜ ((n : Depth) (e : Var n → ℕ) (i : Instr) → store ≡ wordOf (answer i) → state (now (out .exit)) (now (tab .exit)) r ≡ afterT (leaveOf i) e 0 (state (now (out .entry)) (now (tab .entry)) a)) ⌝ }
 {
     let a = emission::ins(out, tab, a, store);
-    let a = mov(out, tab, a, 0, DONE);
+    let a = emission::mov(out, tab, a, 0, DONE);
     asm::b(out, tab, a, Label(0))
 }
 
@@ -186,7 +138,7 @@ pub fn exit_imm(
     let a = emission::flush(out, tab, a, lay, rc);
     let a = moves::mov32(out, tab, a, 9, pc);
     let a = str(out, tab, a, 9, CPU, lay.pc);
-    let a = add_imm(out, tab, a, 0, DONE, count);
+    let a = emission::add_imm(out, tab, a, 0, DONE, count);
     asm::b(out, tab, a, Label(0))
 }
 
@@ -214,7 +166,7 @@ pub fn chain(
     ensures { λ r. ⌜ ((n : Depth) (e : Var n → ℕ) → (state (now (out .exit)) (now (tab .exit)) (r .a) ≡ afterT (chainOf (placed lay) rc pc count) e 0 (state (now (out .entry)) (now (tab .entry)) a)) × ((r .at ∷ []) ≡ startsT (chainOf (placed lay) rc pc count) e 0 (state (now (out .entry)) (now (tab .entry)) a))) ⌝ }
 {
     let a = emission::flush(out, tab, a, lay, rc);
-    let a = add_imm(out, tab, a, DONE, DONE, count);
+    let a = emission::add_imm(out, tab, a, DONE, DONE, count);
     let at = a.at;
     let site = asm::new_label(a);
     asm::bind(out, tab, site.a, site.l);
@@ -224,7 +176,7 @@ pub fn chain(
         out,
         tab,
         a,
-        Instr::MemoryImm(Access::StrX, OFF_SLOT / 8, CTX, 10),
+        words::memory_imm(Access::StrX, OFF_SLOT / 8, CTX, 10),
     );
     Chained { a, at }
 }
@@ -276,14 +228,14 @@ fn lookup(out: &mut [u32], tab: &mut [u64; 6152], a: Asm, table: u64, back: Labe
         out,
         tab,
         a,
-        Instr::Bitfield(Size::W, Extract::Ubfm, 1, 14, 12, 10),
+        words::bitfield(Size::W, Extract::Ubfm, 1, 14, 12, 10),
     );
     let a = asm::ldr_lit_x(out, tab, a, 11, table);
     let a = emission::ins(
         out,
         tab,
         a,
-        Instr::AddSubShifted(
+        words::add_sub_shifted(
             Size::X,
             AddSub::Add,
             Flags::Keeps,
@@ -295,10 +247,10 @@ fn lookup(out: &mut [u32], tab: &mut [u64; 6152], a: Asm, table: u64, back: Labe
         ),
     );
     let a = ldr(out, tab, a, 13, 11, 0);
-    let a = cmp(out, tab, a, 13, 12);
+    let a = emission::cmp(out, tab, a, 13, 12);
     let a = asm::b_cond(out, tab, a, NE, back);
-    let a = emission::ins(out, tab, a, Instr::MemoryImm(Access::LdrX, 1, 11, 9));
-    emission::ins(out, tab, a, Instr::BranchReg(Jump::Br, 9))
+    let a = emission::ins(out, tab, a, words::memory_imm(Access::LdrX, 1, 11, 9));
+    emission::ins(out, tab, a, words::branch_reg(Jump::Br, 9))
 }
 
 // Go on at pc w(t): into the table's body for it, or back.
@@ -316,8 +268,8 @@ pub fn ind(
     ensures { λ r. ⌜ state (now (out .exit)) (now (tab .exit)) r ≡ afterT (indOf (tabled lay table) rc t count brk) nowhere 0 (state (now (out .entry)) (now (tab .entry)) a) ⌝ }
 {
     let a = emission::flush(out, tab, a, lay, rc);
-    let a = mov(out, tab, a, 12, t);
-    let a = add_imm(out, tab, a, DONE, DONE, count);
+    let a = emission::mov(out, tab, a, 12, t);
+    let a = emission::add_imm(out, tab, a, DONE, DONE, count);
     let back = asm::new_label(a);
     let a = brk_first(out, tab, back.a, brk, back.l);
     let a = lookup(out, tab, a, table, back.l);
@@ -326,7 +278,7 @@ pub fn ind(
         out,
         tab,
         a,
-        Instr::MemoryImm(Access::StrW, lay.pc / 4, CPU, 12),
+        words::memory_imm(Access::StrW, lay.pc / 4, CPU, 12),
     )
 }
 
@@ -376,8 +328,8 @@ pub fn limit(
     ensures { λ r. ⌜ state (now (out .exit)) (now (tab .exit)) r ≡ afterT (limitOf (placed lay) rc pc count) nowhere 0 (state (now (out .entry)) (now (tab .entry)) a) ⌝ }
 {
     let fits = asm::new_label(a);
-    let a = add_imm(out, tab, fits.a, 9, DONE, count);
-    let a = cmp(out, tab, a, 9, LIMIT);
+    let a = emission::add_imm(out, tab, fits.a, 9, DONE, count);
+    let a = emission::cmp(out, tab, a, 9, LIMIT);
     let a = asm::b_cond(out, tab, a, LS, fits.l);
     let a = exit_imm(out, tab, a, lay, rc, pc, 0);
     asm::bind(out, tab, a, fits.l);
@@ -400,17 +352,17 @@ fn saves(out: &mut [u32], tab: &mut [u64; 6152], a: Asm) -> Asm
 fn arguments(out: &mut [u32], tab: &mut [u64; 6152], a: Asm) -> Asm
     ensures { λ r. ⌜ state (now (out .exit)) (now (tab .exit)) r ≡ emitted argumentsOf (state (now (out .entry)) (now (tab .entry)) a) ⌝ }
 {
-    let a = mov_x(out, tab, a, CPU, 0);
-    let a = mov_x(out, tab, a, CTX, 1);
-    let a = mov_x(out, tab, a, RAM, 2);
-    let a = mov_x(out, tab, a, XIP, 3);
-    let a = mov(out, tab, a, LIMIT, 4);
-    let a = mov_x(out, tab, a, FLAGS, 5);
+    let a = emission::mov_x(out, tab, a, CPU, 0);
+    let a = emission::mov_x(out, tab, a, CTX, 1);
+    let a = emission::mov_x(out, tab, a, RAM, 2);
+    let a = emission::mov_x(out, tab, a, XIP, 3);
+    let a = emission::mov(out, tab, a, LIMIT, 4);
+    let a = emission::mov_x(out, tab, a, FLAGS, 5);
     emission::ins(
         out,
         tab,
         a,
-        Instr::MoveWide(Size::W, Move::Movz, 0, 0, DONE),
+        words::move_wide(Size::W, Move::Movz, 0, 0, DONE),
     )
 }
 
@@ -432,5 +384,5 @@ pub fn closing(out: &mut [u32], tab: &mut [u64; 6152], a: Asm) -> Asm
     let a = pair(out, tab, a, Mode::Offset, Pair::Ldp, 4, RAM, XIP);
     let a = pair(out, tab, a, Mode::Offset, Pair::Ldp, 2, CPU, CTX);
     let a = pair(out, tab, a, Mode::Post, Pair::Ldp, 12, 29, 30);
-    emission::ins(out, tab, a, Instr::BranchReg(Jump::Ret, 30))
+    emission::ins(out, tab, a, words::branch_reg(Jump::Ret, 30))
 }
