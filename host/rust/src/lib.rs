@@ -1,0 +1,202 @@
+//! The translator of block records to A64 code, for a host in Rust.
+//!
+//! What [`Translator::translate`] and [`link`] answer is proved in crates/werfund, for every record and every length. This wrapper lends them slices:
+//! that no pointer is null, that lengths are true and that nothing overlaps is Rust's to see to.
+//!
+//! Nothing is kept between calls, so that translators and threads do not disturb each other. How much stack a call needs is in docs/SPEED.md.
+//!
+//! ```
+//! // a record that ends before its first field, and three lent words
+//! let mut words = [7; 3];
+//! let fault = werfund::Translator::new().translate(&[], &mut words).unwrap_err();
+//! assert_eq!((fault.number, fault.place), (1, 0));
+//! assert_eq!(words, [0; 3]);
+//! ```
+use std::error::Error;
+use std::fmt;
+
+/// The library's functions, as host/werfund.h declares them.
+mod library {
+    extern "C" {
+        pub fn werfund_translate(
+            record: *const u8,
+            record_bytes: usize,
+            words: *mut u32,
+            words_lent: usize,
+            table: *mut u64,
+            answer: *mut u64,
+            answer_cells: usize,
+        ) -> u32;
+        pub fn werfund_link(site: i64, body: i64) -> u64;
+    }
+}
+
+/// Cells of the table.
+const TABLE: usize = 6152;
+
+/// The working room of a translation, 49,216 bytes. It may serve any number of records, one after the other.
+pub struct Translator {
+    table: Box<[u64; TABLE]>,
+}
+
+/// A chain site: the position of its branch among the block's words, and the guest address that it leads to.
+#[derive(Clone, Copy, Debug, Default, PartialEq, Eq)]
+pub struct Site {
+    pub at: usize,
+    pub target: u32,
+}
+
+/// An accepted record's block.
+#[derive(Clone, Copy, Debug, PartialEq, Eq)]
+pub struct Block {
+    /// How many of the lent words are the block's, from the first on. Those beyond are untouched.
+    pub words: usize,
+    /// Where chained blocks enter, in bytes behind the first word.
+    pub body: usize,
+    sites: [Site; 2],
+    count: usize,
+}
+
+impl Block {
+    /// The chain sites, at most two, each listed once.
+    pub fn sites(&self) -> &[Site] {
+        &self.sites[..self.count]
+    }
+}
+
+/// Why a record is refused: document 01's number, 1 to 10, and the place, an offset in the record. All lent words are then 0.
+#[derive(Clone, Copy, Debug, PartialEq, Eq)]
+pub struct Fault {
+    pub number: u32,
+    pub place: usize,
+}
+
+impl fmt::Display for Fault {
+    fn fmt(&self, f: &mut fmt::Formatter) -> fmt::Result {
+        let what = match self.number {
+            1 => "a field is cut or missing",
+            2 => "a tag is not due, or a length not its field's",
+            3 => "a kind is above 39",
+            4 => "a flag or an operand is out of range",
+            5 => "an offset is too large, unaligned or overlaps another",
+            6 => "a region is too short, unaligned or ends above 2^32",
+            7 => "the block's address is outside 02000000 to 03ffffff",
+            8 => "there is a 33rd operation",
+            9 => "an operation stands behind a jump",
+            _ => "more words are needed than lent",
+        };
+        write!(f, "refused {} {}: {what}", self.number, self.place)
+    }
+}
+
+impl Error for Fault {}
+
+/// Why a link is refused.
+#[derive(Clone, Copy, Debug, PartialEq, Eq)]
+pub enum LinkFault {
+    /// The body is more than 33,554,431 words ahead or 33,554,432 behind.
+    OutOfReach = 11,
+    /// An address is no multiple of 4.
+    Unaligned = 12,
+}
+
+impl fmt::Display for LinkFault {
+    fn fmt(&self, f: &mut fmt::Formatter) -> fmt::Result {
+        let what = match self {
+            LinkFault::OutOfReach => "the body is out of reach",
+            LinkFault::Unaligned => "an address is no multiple of 4",
+        };
+        write!(f, "not linked {}: {what}", *self as u32)
+    }
+}
+
+impl Error for LinkFault {}
+
+impl Translator {
+    pub fn new() -> Translator {
+        let table = vec![0; TABLE].into_boxed_slice();
+        Translator {
+            table: table.try_into().expect("it has as many cells"),
+        }
+    }
+
+    /// The words of an accepted record's block, in `words`; or the first fault, and every lent word 0.
+    ///
+    /// ```
+    /// # fn number(n: u32) -> [u8; 4] { n.to_le_bytes() }
+    /// # let field = |tag: u8, payload: &[u8]| [&[tag, payload.len() as u8, 0], payload].concat();
+    /// // document 01's block of no operations
+    /// let record = [
+    ///     field(1, &[0, 64, 68, 72, 76].map(number).concat()),
+    ///     field(2, &[&[0x01000000, 0x00010000, 0x02000000, 0x00100000].map(number).concat()[..], &[0]].concat()),
+    ///     field(3, &[0; 24]),
+    ///     field(4, &number(0x02000000)),
+    /// ]
+    /// .concat();
+    /// let mut words = [7; 40];
+    /// let block = werfund::Translator::new().translate(&record, &mut words)?;
+    /// assert_eq!((block.words, block.body), (35, 52));
+    /// assert_eq!(block.sites(), [werfund::Site { at: 21, target: 0x02000000 }]);
+    /// assert_eq!(words[34..], [0xd65f03c0, 7, 7, 7, 7, 7]);
+    /// # Ok::<(), werfund::Fault>(())
+    /// ```
+    pub fn translate(&mut self, record: &[u8], words: &mut [u32]) -> Result<Block, Fault> {
+        let mut answer = [0; 8];
+        // SAFETY: each pointer and length is that of a slice or an array, so it is not null, is aligned and is true; the four are apart, since
+        // three of them are borrowed alone and the record is borrowed beside them. The library writes inside them and keeps none.
+        let number = unsafe {
+            library::werfund_translate(
+                record.as_ptr(),
+                record.len(),
+                words.as_mut_ptr(),
+                words.len(),
+                self.table.as_mut_ptr(),
+                answer.as_mut_ptr(),
+                answer.len(),
+            )
+        };
+        let [place, words, body, count, at0, target0, at1, target1] = answer;
+        if number != 0 {
+            return Err(Fault {
+                number,
+                place: place as usize,
+            });
+        }
+        let site = |at: u64, target: u64| Site {
+            at: at as usize,
+            target: target as u32,
+        };
+        Ok(Block {
+            words: words as usize,
+            body: body as usize,
+            sites: [site(at0, target0), site(at1, target1)],
+            count: count as usize,
+        })
+    }
+}
+
+impl Default for Translator {
+    fn default() -> Translator {
+        Translator::new()
+    }
+}
+
+/// The branch that the host writes at a chain site to link it with a body, from the addresses of both. The write and the instruction cache are
+/// the host's.
+///
+/// ```
+/// use werfund::{link, LinkFault};
+/// assert_eq!(link(0x1000, 0x1004), Ok(0x14000001));
+/// assert_eq!(link(0x1004, 0x1000), Ok(0x17ffffff));
+/// assert_eq!(link(0, 1 << 27), Err(LinkFault::OutOfReach));
+/// assert_eq!(link(2, 4), Err(LinkFault::Unaligned));
+/// ```
+pub fn link(site: i64, body: i64) -> Result<u32, LinkFault> {
+    // SAFETY: it takes numbers, and touches no memory.
+    let linked = unsafe { library::werfund_link(site, body) };
+    match linked >> 32 {
+        0 => Ok(linked as u32),
+        11 => Err(LinkFault::OutOfReach),
+        _ => Err(LinkFault::Unaligned),
+    }
+}

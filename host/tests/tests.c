@@ -1,0 +1,286 @@
+/* The host's side in C: every case of a file through werfund_translate_checked, compared with its frozen answer; and what a caller may get wrong.
+ *
+ *     tests CASES [COUNT]
+ *
+ * The form of a case is at the head of tools/block_cases.py. With COUNT only the first cases are compared. Prints what was compared, and the
+ * checks by name where they fail. The exit status is 0 where nothing differs.
+ */
+#include <stdio.h>
+#include <stdlib.h>
+#include <string.h>
+
+#include "../werfund.h"
+
+/* What lent words hold before a call, so that one that is left as it was can be told from one that is written. */
+#define BEFORE 0x5a5a5a5au
+
+static unsigned checks, failures;
+
+static void check(int holds, const char *what) {
+    checks++;
+    if (!holds) {
+        failures++;
+        printf("failed: %s\n", what);
+    }
+}
+
+/* Room of exactly so many bytes, so that valgrind sees a byte more. */
+static void *room(size_t bytes) {
+    void *p = malloc(bytes);
+    if (p == NULL && bytes != 0) {
+        fprintf(stderr, "no memory\n");
+        exit(2);
+    }
+    return p;
+}
+
+static uint32_t *lend(size_t count) {
+    uint32_t *words = room(count * sizeof *words);
+    for (size_t i = 0; i < count; i++) {
+        words[i] = BEFORE;
+    }
+    return words;
+}
+
+static int all(const uint32_t *words, size_t from, size_t to, uint32_t value) {
+    for (size_t i = from; i < to; i++) {
+        if (words[i] != value) {
+            return 0;
+        }
+    }
+    return 1;
+}
+
+/* ---- cases */
+
+enum { LENT, FAULT, PLACE, WORDS, BODY, SITES, AT0, TARGET0, AT1, TARGET1, LENGTH, NUMBERS };
+
+typedef struct frozen {
+    uint32_t n[NUMBERS];
+    uint8_t *record;
+    uint8_t *words;
+} frozen;
+
+static uint32_t number(const uint8_t *p) {
+    return (uint32_t)p[0] | (uint32_t)p[1] << 8 | (uint32_t)p[2] << 16 | (uint32_t)p[3] << 24;
+}
+
+/* The next case of a file; its bytes are the caller's to free. Null at the end. */
+static uint8_t *next(FILE *file, frozen *c) {
+    uint8_t head[4], *bytes;
+    size_t length;
+    if (fread(head, 1, sizeof head, file) != sizeof head) {
+        return NULL;
+    }
+    length = number(head);
+    bytes = room(length);
+    if (length < 4 * NUMBERS || fread(bytes, 1, length, file) != length) {
+        fprintf(stderr, "a case is cut\n");
+        exit(2);
+    }
+    for (int i = 0; i < NUMBERS; i++) {
+        c->n[i] = number(bytes + 4 * i);
+    }
+    c->record = bytes + 4 * NUMBERS;
+    c->words = c->record + c->n[LENGTH];
+    return bytes;
+}
+
+/* Whether a case's answer and every lent word are the frozen ones. */
+static int same(const frozen *c, uint64_t *table) {
+    uint8_t *record = room(c->n[LENGTH]);
+    uint32_t *words = lend(c->n[LENT]);
+    werfund_answer a;
+    uint32_t fault;
+    int equal;
+    memcpy(record, c->record, c->n[LENGTH]);
+    fault = werfund_translate_checked(record, c->n[LENGTH], words, c->n[LENT], table, &a);
+    equal = fault == c->n[FAULT] && a.place == c->n[PLACE] && a.words == c->n[WORDS] && a.body == c->n[BODY] && a.sites == c->n[SITES] &&
+            a.site[0].at == c->n[AT0] && a.site[0].target == c->n[TARGET0] && a.site[1].at == c->n[AT1] && a.site[1].target == c->n[TARGET1];
+    for (size_t i = 0; equal && i < a.words; i++) {
+        equal = words[i] == number(c->words + 4 * i);
+    }
+    equal = equal && all(words, a.words, c->n[LENT], fault == WERFUND_ACCEPTED ? BEFORE : 0);
+    free(words);
+    free(record);
+    return equal;
+}
+
+static void cases(const char *path, unsigned long count) {
+    unsigned long cases = 0, refused = 0, words = 0, different = 0;
+    uint64_t *table = room(WERFUND_TABLE * sizeof *table); /* not cleared */
+    FILE *file = fopen(path, "rb");
+    uint8_t *bytes;
+    frozen c;
+    if (file == NULL) {
+        perror(path);
+        exit(2);
+    }
+    while (cases < count && (bytes = next(file, &c)) != NULL) {
+        cases++;
+        refused += c.n[FAULT] != 0;
+        words += c.n[WORDS];
+        different += !same(&c, table);
+        free(bytes);
+    }
+    fclose(file);
+    free(table);
+    printf("cases %lu\nrefused %lu\nwords %lu\ndifferent %lu\n", cases, refused, words, different);
+    check(different == 0, "a case differs");
+}
+
+/* ---- the boundary */
+
+/* Document 01's block of no operations: 35 words, one site. */
+static const uint8_t empty_block[77] = {1,  20, 0, 0, 0, 0, 0, 64, 0, 0, 0, 68, 0, 0, 0, 72, 0, 0, 0, 76, 0, 0, 0, 2, 17, 0,
+                                        0,  0,  0, 1, 0, 0, 1, 0,  0, 0, 0, 2,  0, 0, 16, 0, 0, 3, 24, 0, 0, 0, 0, 0, 0,  0,
+                                        0,  0,  0, 0, 0, 0, 0, 0,  0, 0, 0, 0,  0, 0, 0,  0, 0, 0, 4,  4, 0, 0, 0, 0, 2};
+
+/* The same at another address, behind a Nop: its words differ. */
+static const uint8_t nop_block[83] = {1,  20, 0, 0, 0, 0, 0, 64, 0, 0, 0, 68, 0, 0, 0, 72, 0, 0, 0, 76, 0, 0, 0, 2, 17, 0, 0, 0,
+                                      0,  1,  0, 0, 1, 0, 0, 0,  0, 2, 0, 0,  16, 0, 0, 3, 24, 0, 0, 0, 0, 0, 0, 0, 0, 0,  0, 0,
+                                      0,  0,  0, 0, 0, 0, 0, 0,  0, 0, 0, 0,  0, 0, 4, 4, 0, 8, 0, 0, 2, 5, 3, 0, 0, 2,  0};
+
+static uint64_t table[WERFUND_TABLE + 1];
+
+static void empty(void) {
+    uint32_t words[3] = {BEFORE, BEFORE, BEFORE};
+    werfund_answer a;
+    check(werfund_translate_checked(NULL, 0, words, 3, table, &a) == WERFUND_CUT && a.place == 0, "an empty record at null is fault 1 at 0");
+    check(all(words, 0, 3, 0), "its lent words are 0");
+    check(werfund_translate_checked(empty_block, 0, words, 3, table, &a) == WERFUND_CUT && a.place == 0, "an empty record is fault 1 at 0");
+    check(werfund_translate_checked(empty_block, 77, NULL, 0, table, &a) == WERFUND_ROOM && a.place == 77, "no words at null are fault 10 at 77");
+    check(werfund_translate_checked(empty_block, 77, words, 0, table, &a) == WERFUND_ROOM && a.place == 77, "no words are fault 10 at 77");
+    check(werfund_translate_checked(NULL, 0, NULL, 0, table, &a) == WERFUND_CUT && a.place == 0, "nothing at all is fault 1 at 0");
+    check(a.words == 0 && a.body == 0 && a.sites == 0 && a.site[0].at == 0 && a.site[1].target == 0, "a refusal has no counts and no sites");
+}
+
+static void lengths(void) {
+    for (size_t lent = 34; lent <= 36; lent++) {
+        uint32_t words[40];
+        werfund_answer a;
+        uint32_t fault;
+        for (int i = 0; i < 40; i++) {
+            words[i] = BEFORE;
+        }
+        fault = werfund_translate_checked(empty_block, 77, words, lent, table, &a);
+        check(fault == (lent < 35 ? WERFUND_ROOM : WERFUND_ACCEPTED), "35 words are enough, and 34 are not");
+        check(lent < 35 ? all(words, 0, 34, 0) : words[0] == 0xa9ba7bfd && words[34] == 0xd65f03c0, "the lent words are the block's, or 0");
+        check(all(words, lent < 35 ? 34 : 35, 40, BEFORE), "the words beyond are untouched");
+    }
+}
+
+/* Whether a call answers WERFUND_MISUSE, and leaves words and answer as they were. */
+static int misused(const uint8_t *record, size_t bytes, uint32_t *words, size_t lent, uint64_t *tab, werfund_answer *a) {
+    werfund_answer before;
+    memset(&before, 0x77, sizeof before);
+    if (a != NULL) {
+        *a = before;
+    }
+    return werfund_translate_checked(record, bytes, words, lent, tab, a) == WERFUND_MISUSE && (a == NULL || memcmp(a, &before, sizeof before) == 0);
+}
+
+static void misuse(void) {
+    uint32_t *words = lend(64);
+    uint8_t *bytes = (uint8_t *)table;
+    werfund_answer a;
+    check(misused(NULL, 1, words, 64, table, &a), "a null record with a length");
+    check(misused(empty_block, 77, NULL, 1, table, &a), "null words with a length");
+    check(misused(empty_block, 77, words, 64, NULL, &a), "a null table");
+    check(misused(empty_block, 77, words, 64, table, NULL), "a null answer");
+    check(misused(empty_block, 77, (uint32_t *)(void *)((uint8_t *)words + 2), 63, table, &a), "words that are not aligned");
+    check(misused(empty_block, 77, words, 64, (uint64_t *)(void *)(bytes + 4), &a), "a table that is not aligned");
+    check(misused(empty_block, (size_t)-1, words, 64, table, &a), "a record longer than memory");
+    check(misused(empty_block, 77, words, (size_t)-1 / 4, table, &a), "more words than memory");
+    check(misused((uint8_t *)words, 77, words + 19, 45, table, &a), "a record that ends in the words");
+    check(misused((uint8_t *)(words + 63), 4, words, 64, table, &a), "words that end in the record");
+    check(misused(bytes + 8 * WERFUND_TABLE - 1, 2, words, 64, table, &a), "a table that ends in the record");
+    check(misused(empty_block, 77, (uint32_t *)(void *)(bytes + 8 * WERFUND_TABLE - 4), 2, table, &a), "a table that ends in the words");
+    check(all(words, 0, 64, BEFORE), "and the words are untouched");
+    memcpy(words, empty_block, 77);
+    check(werfund_translate_checked((uint8_t *)words, 77, words + 20, 44, table, &a) == WERFUND_ACCEPTED, "a record beside its words is fine");
+    free(words);
+}
+
+/* The library's own function: an answer of fewer cells, and of more. */
+static void few_cells(void) {
+    static const uint64_t accepted[8] = {0, 35, 52, 1, 21, 0x02000000, 0, 0};
+    static const uint64_t refused[8] = {77, 0, 0, 0, 0, 0, 0, 0};
+    uint32_t words[35];
+    for (size_t n = 0; n <= 10; n++) {
+        for (size_t lent = 34; lent <= 35; lent++) {
+            uint64_t cells[10];
+            uint32_t fault;
+            int equal = 1;
+            memset(cells, 0x77, sizeof cells);
+            fault = werfund_translate(empty_block, 77, words, lent, table, cells, n);
+            for (size_t i = 0; i < 10; i++) {
+                equal = equal && cells[i] == (i < n && i < 8 ? (lent < 35 ? refused : accepted)[i] : 0x7777777777777777u);
+            }
+            check(fault == (lent < 35 ? 10u : 0u) && equal, "an answer gets as many cells as it has, and no more");
+        }
+    }
+}
+
+/* Two tables, and one that serves two blocks by turns: no call is disturbed by another. */
+static void interleaved(void) {
+    uint64_t *other = room(WERFUND_TABLE * sizeof *other);
+    uint32_t first[2][64], second[2][64];
+    werfund_answer a, b;
+    memset(table, 0xff, sizeof table);
+    for (int i = 0; i < 2; i++) {
+        memset(first[i], 0, sizeof first[i]);
+        memset(second[i], 0, sizeof second[i]);
+    }
+    for (int turn = 0; turn < 4; turn++) {
+        int i = turn & 1;
+        check(werfund_translate_checked(empty_block, 77, first[i], 64, i == 0 ? table : other, &a) == 0, "the first is accepted");
+        check(werfund_translate_checked(nop_block, 83, second[i], 64, turn < 2 ? other : table, &b) == 0, "the second is accepted");
+        check(memcmp(first[0], first[i], sizeof first[0]) == 0 && a.words == 35, "and has its words again");
+        check(memcmp(second[0], second[i], sizeof second[0]) == 0 && b.site[0].target == 0x0200000a, "as the second has");
+    }
+    check(memcmp(first[0], second[0], sizeof first[0]) != 0, "which are others");
+    free(other);
+}
+
+static void links(void) {
+    static const struct {
+        int64_t site, body;
+        uint32_t fault, word;
+    } link[] = {
+        {0, 4, 0, 0x14000001},                                  /* document 01, starred: 4 bytes ahead */
+        {4, 0, 0, 0x17ffffff},                                  /* and 4 bytes behind */
+        {0, 134217724, 0, 0x15ffffff},                          /* the last that reaches ahead, */
+        {134217728, 0, 0, 0x16000000},                          /* and behind */
+        {0, 134217728, 11, 0},                                  /* document 01's example of 11 */
+        {134217732, 0, 11, 0},                                  /* one more behind */
+        {INT64_MIN, INT64_MAX - 3, 11, 0},                      /* the difference does not wrap */
+        {2, 4, 12, 0},                                          /* document 01's example of 12 */
+        {4, 2, 12, 0},                                          /* either address */
+        {1, 134217728, 12, 0},                                  /* 12 before 11 */
+        {-8, -4, 0, 0x14000001},
+    };
+    uint32_t word;
+    for (size_t i = 0; i < sizeof link / sizeof *link; i++) {
+        word = BEFORE;
+        check(werfund_link_checked(link[i].site, link[i].body, &word) == link[i].fault && word == link[i].word, "a link");
+        check(werfund_link(link[i].site, link[i].body) == ((uint64_t)link[i].fault << 32 | link[i].word), "and the library's own function");
+    }
+    check(werfund_link_checked(0, 4, NULL) == WERFUND_MISUSE, "a link without a word");
+}
+
+int main(int argc, char **argv) {
+    if (argc < 2) {
+        fprintf(stderr, "usage: tests CASES [COUNT]\n");
+        return 2;
+    }
+    cases(argv[1], argc < 3 ? (unsigned long)-1 : strtoul(argv[2], NULL, 10));
+    empty();
+    lengths();
+    misuse();
+    few_cells();
+    interleaved();
+    links();
+    printf("checks %u\nfailed %u\n", checks, failures);
+    return failures != 0;
+}

@@ -1,0 +1,238 @@
+//! The host's side in Rust: every case of a file through the wrapper, compared with its frozen answer; and the boundary.
+//!
+//!     tests CASES [COUNT]
+//!
+//! The form of a case is at the head of tools/block_cases.py. With COUNT only the first cases are compared. Prints what was compared, and the
+//! checks by name where they fail. The exit status is 0 where nothing differs.
+use std::process::ExitCode;
+use werfund::{link, Block, Fault, LinkFault, Site, Translator};
+
+/// What lent words hold before a call, so that one that is left as it was can be told from one that is written.
+const BEFORE: u32 = 0x5a5a5a5a;
+
+#[derive(Default)]
+struct Checks {
+    made: usize,
+    failed: usize,
+}
+
+impl Checks {
+    fn check(&mut self, holds: bool, what: &str) {
+        self.made += 1;
+        if !holds {
+            self.failed += 1;
+            println!("failed: {what}");
+        }
+    }
+}
+
+/// Numbers of 32 bits, little-endian.
+fn numbers(bytes: &[u8]) -> Vec<u32> {
+    bytes
+        .chunks_exact(4)
+        .map(|b| u32::from_le_bytes(b.try_into().unwrap()))
+        .collect()
+}
+
+/// A case: the words lent, the frozen answer with its words, and the record.
+struct Case {
+    lent: usize,
+    answer: Result<(usize, usize, Vec<Site>), Fault>,
+    record: Vec<u8>,
+    words: Vec<u32>,
+}
+
+/// The first case of a file's bytes, and the bytes behind it.
+fn next(bytes: &[u8]) -> (Case, &[u8]) {
+    let (case, behind) = bytes[4..].split_at(numbers(&bytes[..4])[0] as usize);
+    let n = numbers(&case[..44]);
+    let (record, words) = case[44..].split_at(n[10] as usize);
+    let answer = match n[1] {
+        0 => {
+            let both = [
+                Site {
+                    at: n[6] as usize,
+                    target: n[7],
+                },
+                Site {
+                    at: n[8] as usize,
+                    target: n[9],
+                },
+            ];
+            Ok((n[3] as usize, n[4] as usize, both[..n[5] as usize].to_vec()))
+        }
+        number => Err(Fault {
+            number,
+            place: n[2] as usize,
+        }),
+    };
+    (
+        Case {
+            lent: n[0] as usize,
+            answer,
+            record: record.to_vec(),
+            words: numbers(words),
+        },
+        behind,
+    )
+}
+
+fn parts(block: Block) -> (usize, usize, Vec<Site>) {
+    (block.words, block.body, block.sites().to_vec())
+}
+
+/// Whether a case's answer and every lent word are the frozen ones.
+fn same(c: &Case, translator: &mut Translator) -> bool {
+    let mut words = vec![BEFORE; c.lent];
+    let answer = translator.translate(&c.record, &mut words).map(parts);
+    let rest = if answer.is_ok() { BEFORE } else { 0 };
+    answer == c.answer
+        && words.len() >= c.words.len()
+        && words[..c.words.len()] == c.words
+        && words[c.words.len()..].iter().all(|w| *w == rest)
+}
+
+fn cases(path: &str, count: usize, checks: &mut Checks) {
+    let file = std::fs::read(path).expect(path);
+    let mut rest = &file[..];
+    let mut translator = Translator::new();
+    let (mut cases, mut refused, mut words, mut different) = (0, 0, 0, 0);
+    while cases < count && !rest.is_empty() {
+        let (case, behind) = next(rest);
+        rest = behind;
+        cases += 1;
+        refused += case.answer.is_err() as usize;
+        words += case.words.len();
+        different += !same(&case, &mut translator) as usize;
+    }
+    println!("cases {cases}\nrefused {refused}\nwords {words}\ndifferent {different}");
+    checks.check(different == 0, "a case differs");
+}
+
+/// Document 01's block of no operations, at another address and behind `nops` Nops of two bytes.
+fn block(address: u32, nops: usize) -> Vec<u8> {
+    let number = |n: u32| n.to_le_bytes();
+    let mut record = vec![1, 20, 0];
+    record.extend([0, 64, 68, 72, 76].map(number).concat());
+    record.extend([2, 17, 0]);
+    record.extend(
+        [0x01000000, 0x00010000, 0x02000000, 0x00100000]
+            .map(number)
+            .concat(),
+    );
+    record.extend([0, 3, 24, 0]);
+    record.extend([0; 24]);
+    record.extend([4, 4, 0]);
+    record.extend(number(address));
+    record.extend([5, 3, 0, 0, 2, 0].repeat(nops));
+    record
+}
+
+fn boundary(checks: &mut Checks) {
+    let record = block(0x02000000, 0);
+    let mut translator = Translator::new();
+    let fault = |number, place| Err(Fault { number, place });
+
+    let mut words = [BEFORE; 3];
+    checks.check(
+        translator.translate(&[], &mut words) == fault(1, 0),
+        "an empty record is fault 1 at 0",
+    );
+    checks.check(words == [0; 3], "and its lent words are 0");
+    checks.check(
+        translator.translate(&record, &mut []) == fault(10, 77),
+        "no words are fault 10 at 77",
+    );
+    checks.check(
+        translator.translate(&[], &mut []) == fault(1, 0),
+        "nothing at all is fault 1 at 0",
+    );
+
+    for lent in 34..=36 {
+        let mut words = [BEFORE; 40];
+        let answer = translator.translate(&record, &mut words[..lent]);
+        checks.check(
+            answer.is_ok() == (lent >= 35),
+            "35 words are enough, and 34 are not",
+        );
+        checks.check(
+            words[if lent < 35 { 34 } else { 35 }..]
+                .iter()
+                .all(|w| *w == BEFORE),
+            "the words beyond are untouched",
+        );
+    }
+
+    let said = translator
+        .translate(&record[..76], &mut [])
+        .unwrap_err()
+        .to_string();
+    checks.check(
+        said == "refused 1 70: a field is cut or missing",
+        "a fault says what it is",
+    );
+}
+
+/// Two translators by turns, and one that serves two blocks: no call is disturbed by another.
+fn interleaved(checks: &mut Checks) {
+    let records = [block(0x02000000, 0), block(0x02000800, 1)];
+    let fresh = [0, 1].map(|i: usize| {
+        let mut words = [0; 64];
+        let block = Translator::new().translate(&records[i], &mut words);
+        (block, words)
+    });
+    let mut translators = [Translator::new(), Translator::new()];
+    for turn in 0..8 {
+        let (i, k) = (turn & 1, (turn >> 1) & 1);
+        let mut words = [0; 64];
+        let block = translators[k].translate(&records[i], &mut words);
+        checks.check(
+            block.is_ok() && (block, words) == fresh[i],
+            "a block has its words again",
+        );
+    }
+    checks.check(fresh[0] != fresh[1], "which are not the other's");
+}
+
+fn links(checks: &mut Checks) {
+    let links = [
+        (0, 4, Ok(0x14000001)),         // document 01, starred: 4 bytes ahead
+        (4, 0, Ok(0x17ffffff)),         // and 4 bytes behind
+        (0, 134217724, Ok(0x15ffffff)), // the last that reaches ahead,
+        (134217728, 0, Ok(0x16000000)), // and behind
+        (0, 134217728, Err(LinkFault::OutOfReach)), // document 01's example of 11
+        (134217732, 0, Err(LinkFault::OutOfReach)), // one more behind
+        (i64::MIN, i64::MAX - 3, Err(LinkFault::OutOfReach)), // the difference does not wrap
+        (2, 4, Err(LinkFault::Unaligned)), // document 01's example of 12
+        (4, 2, Err(LinkFault::Unaligned)), // either address
+        (1, 134217728, Err(LinkFault::Unaligned)), // 12 before 11
+        (-8, -4, Ok(0x14000001)),
+    ];
+    for (site, body, answer) in links {
+        checks.check(link(site, body) == answer, "a link");
+    }
+    checks.check(
+        LinkFault::OutOfReach.to_string() == "not linked 11: the body is out of reach",
+        "a link's fault says what it is",
+    );
+}
+
+fn main() -> ExitCode {
+    let args: Vec<String> = std::env::args().collect();
+    let Some(path) = args.get(1) else {
+        eprintln!("usage: tests CASES [COUNT]");
+        return ExitCode::from(2);
+    };
+    let mut checks = Checks::default();
+    cases(
+        path,
+        args.get(2)
+            .map_or(usize::MAX, |n| n.parse().expect("a number")),
+        &mut checks,
+    );
+    boundary(&mut checks);
+    interleaved(&mut checks);
+    links(&mut checks);
+    println!("checks {}\nfailed {}", checks.made, checks.failed);
+    ExitCode::from((checks.failed != 0) as u8)
+}

@@ -1,0 +1,147 @@
+/* The translator of block records to A64 code, for a host in C (C99) or C++ on x86-64 Linux.
+ *
+ * `rt staticlib werfund` writes target/staticlib/libwerfund.a; link it, and nothing else beside the C library. What each function answers is
+ * proved in crates/werfund, for every record and every length. What a contract cannot say of C is in this file: pointers.
+ *
+ * There is no heap, no file, no lock and no state: nothing is kept between calls. Calls may run at the same time, each with its own words,
+ * table and answer. How much stack a call needs is in docs/SPEED.md.
+ *
+ * The functions with `_checked` test their pointers and lengths; use these. The others are the library's own, and take what they are given.
+ */
+#ifndef WERFUND_H
+#define WERFUND_H
+
+#include <stddef.h>
+#include <stdint.h>
+
+#ifdef __cplusplus
+extern "C" {
+#endif
+
+/* Cells of the table, of 64 bits each: 49,216 bytes. It is working room that the caller lends. What it holds does not matter, so that it needs
+ * no clearing, and the same one may serve the next call. */
+#define WERFUND_TABLE 6152
+
+/* Numbers of an answer. */
+#define WERFUND_ANSWER 8
+
+/* What a call answers: document 01's faults, by their numbers there. */
+enum werfund_fault {
+    WERFUND_ACCEPTED = 0,
+    WERFUND_CUT = 1,          /* a field's header or payload is cut, or the record ends before the field with tag 04 */
+    WERFUND_FIELD = 2,        /* a tag that is not due, or a length that is not the field's */
+    WERFUND_KIND = 3,         /* an operation's kind above 39 */
+    WERFUND_OPERAND = 4,      /* a flag or an operand out of range */
+    WERFUND_OFFSET = 5,       /* an offset of 16384 or more, one that is no multiple of 4, or two places that overlap */
+    WERFUND_REGION = 6,       /* a region shorter than 4, with a base that is no multiple of 4, or that ends above 2^32 */
+    WERFUND_START = 7,        /* a block's address outside 02000000 to 03ffffff */
+    WERFUND_OPERATIONS = 8,   /* a 33rd operation */
+    WERFUND_BEHIND_JUMP = 9,  /* an operation behind a jump */
+    WERFUND_ROOM = 10,        /* more words are needed than lent; it comes last, so the record has no other fault */
+    WERFUND_REACH = 11,       /* link: the body is out of reach */
+    WERFUND_UNALIGNED = 12    /* link: an address that is no multiple of 4 */
+};
+
+/* No fault: a pointer or a length that no call may have. Only the functions with `_checked` answer it, and then nothing was written. */
+#define WERFUND_MISUSE 0xffffffffu
+
+/* ---- the library's functions
+ *
+ * No pointer is null, also where the length is 0. `words` is a multiple of 4, `table` and `answer` are multiples of 8. Record, words, table and
+ * answer lie apart: no two of them overlap. Lengths count bytes, words and cells, and are true. The functions test none of this.
+ *
+ * werfund_translate answers 0, or the fault's number, 1 to 10. Accepted: the block's words stand in `words` from the first on, and those behind
+ * them are untouched. Refused: all lent words are 0. `answer` gets as many of these eight as it has room for, and its other cells are untouched:
+ *
+ *     0  the fault's place, an offset in the record    4  the first site's word    6  the second site's word
+ *     1  the number of words                           5  its guest target         7  its guest target
+ *     2  the body's offset, in bytes
+ *     3  the number of chain sites, 0 to 2
+ *
+ * What there is not is 0: place in an accepted block, the others in a refused record.
+ */
+uint32_t werfund_translate(const uint8_t *record, size_t record_bytes, uint32_t *words, size_t words_lent, uint64_t *table, uint64_t *answer,
+                           size_t answer_cells);
+
+/* The word of the branch from a chain site to a body in the lower 32 bits, and 0 above it; or the fault's number, 11 or 12, in the upper 32 bits,
+ * and 0 below it. Both addresses are signed numbers of 64 bits. */
+uint64_t werfund_link(int64_t site, int64_t body);
+
+/* ---- the same, tested */
+
+/* A chain site: the position of its branch among the block's words, and the guest address that it leads to. */
+typedef struct werfund_site {
+    uint32_t at;
+    uint32_t target;
+} werfund_site;
+
+/* A block's counts and sites, or a fault's place; the rest is 0. Chained blocks enter `body` bytes behind the first word. */
+typedef struct werfund_answer {
+    size_t place;
+    uint32_t words;
+    uint32_t body;
+    uint32_t sites;
+    werfund_site site[2];
+} werfund_answer;
+
+/* Whether two pieces of memory have no byte in common. */
+static inline int werfund_apart(const void *a, size_t a_bytes, const void *b, size_t b_bytes) {
+    uintptr_t x = (uintptr_t)a, y = (uintptr_t)b;
+    return a_bytes == 0 || b_bytes == 0 || (x < y ? a_bytes <= y - x : b_bytes <= x - y);
+}
+
+/* Whether `count` elements of `size` bytes can stand at `p`: aligned, not null, and no more than an object has. Nothing stands anywhere. */
+static inline int werfund_stands(const void *p, size_t count, size_t size) {
+    return count == 0 || (p != NULL && (uintptr_t)p % size == 0 && count <= (size_t)PTRDIFF_MAX / size);
+}
+
+/* Translates a record. Answers 0, the fault's number, 1 to 10, or WERFUND_MISUSE: a table or an answer that is null, a null pointer with a length,
+ * a pointer that is not aligned, or two of record, words, table and answer that overlap. A null pointer with the length 0 is an empty record, or no
+ * lent words. */
+static inline uint32_t werfund_translate_checked(const uint8_t *record, size_t record_bytes, uint32_t *words, size_t words_lent, uint64_t *table,
+                                                 werfund_answer *answer) {
+    uint8_t no_record = 0;
+    uint32_t no_words = 0;
+    uint64_t cells[WERFUND_ANSWER];
+    size_t lent, table_bytes = WERFUND_TABLE * sizeof *table;
+    uint32_t fault;
+    if (!werfund_stands(record, record_bytes, 1) || !werfund_stands(words, words_lent, sizeof *words) ||
+        !werfund_stands(table, WERFUND_TABLE, sizeof *table) || !werfund_stands(answer, 1, sizeof answer->place)) {
+        return WERFUND_MISUSE;
+    }
+    lent = words_lent * sizeof *words;
+    if (!werfund_apart(record, record_bytes, words, lent) || !werfund_apart(record, record_bytes, table, table_bytes) ||
+        !werfund_apart(words, lent, table, table_bytes) || !werfund_apart(answer, sizeof *answer, record, record_bytes) ||
+        !werfund_apart(answer, sizeof *answer, words, lent) || !werfund_apart(answer, sizeof *answer, table, table_bytes)) {
+        return WERFUND_MISUSE;
+    }
+    fault = werfund_translate(record_bytes == 0 ? &no_record : record, record_bytes, words_lent == 0 ? &no_words : words, words_lent, table, cells,
+                              WERFUND_ANSWER);
+    answer->place = (size_t)cells[0];
+    answer->words = (uint32_t)cells[1];
+    answer->body = (uint32_t)cells[2];
+    answer->sites = (uint32_t)cells[3];
+    answer->site[0].at = (uint32_t)cells[4];
+    answer->site[0].target = (uint32_t)cells[5];
+    answer->site[1].at = (uint32_t)cells[6];
+    answer->site[1].target = (uint32_t)cells[7];
+    return fault;
+}
+
+/* The branch that the host writes at a chain site to link it with a body. Answers 0 and the word; or 11 or 12, and the word 0; or WERFUND_MISUSE
+ * where `word` is null. The write and the instruction cache are the host's. */
+static inline uint32_t werfund_link_checked(int64_t site, int64_t body, uint32_t *word) {
+    uint64_t linked;
+    if (word == NULL) {
+        return WERFUND_MISUSE;
+    }
+    linked = werfund_link(site, body);
+    *word = (uint32_t)linked;
+    return (uint32_t)(linked >> 32);
+}
+
+#ifdef __cplusplus
+}
+#endif
+
+#endif
