@@ -1,11 +1,12 @@
-// What a step chooses: an instruction, a number or a condition.
+// What a step chooses: the word of an instruction, a number or a condition.
 ghost use mathlib.Core.Path.{_≡_};
 ghost use Prim.Native.Nat.{_%_, _<_};
 ghost use Rattle.block.specs.Block.{kindOf, mayJump, usesBus};
 ghost use Rattle.code.specs.Items.{pick};
 ghost use Rattle.lowering.specs.Instrs.{addLsl, csel as cselOf, ubfx, sbfx, lslI, lsrI, asrI};
 ghost use Rattle.lowering.specs.Steps.{alu as aluOf, acond as acondOf, ext as extOf, choice, ones as onesOf, hole as holeOf, sign as signOf};
-ghost use Rattle.steps.specs.Expand.{instrOf};
+ghost use Rattle.words.specs.Answers.{answer, wordOf};
+ghost use Rattle.choices.specs.Meaning.{instrOf};
 use arm::AddSub;
 use arm::Extract;
 use arm::Flags;
@@ -24,7 +25,6 @@ use block::Cond;
 use block::Fast;
 use block::Op;
 use block::Part;
-use steps::Fixed;
 
 const KEEP: u32 = 23;
 
@@ -51,59 +51,94 @@ const GT: u32 = 12;
 
 const LE: u32 = 13;
 
+// An instruction with no operand to choose: its name and its registers.
+pub enum Fixed {
+    Movz11,
+    Lslv112,
+    Cmp01,
+    CmpI00,
+    CmpI10,
+    Tst01,
+    Mvn00,
+    Neg00,
+    CnegLt00,
+    Rev00,
+    Clz00,
+    Csel010Gt,
+    Csel010Lt,
+    Csel0z0Lt,
+    Csel2z2Eq,
+    Sdiv201,
+    Udiv201,
+    Msub2210,
+    And002,
+    And112,
+    And102,
+    Orr001,
+    Orr102,
+    Eor102,
+    Add102,
+    Sub102,
+    AddI004,
+    SubI004,
+    SubI001,
+    Mov0Keep,
+    MovKeep0,
+}
+
 // ---- classes of instructions on registers, in 32 bits
-fn sum(o: AddSub, f: Flags, rd: u32, rn: u32, rm: u32) -> Instr
-    ensures { λ r. ⌜ r ≡ Instr.AddSubShifted Size.W o f Shift.Lsl rm 0 rn rd ⌝ }
+fn sum(o: AddSub, f: Flags, rd: u32, rn: u32, rm: u32) -> u32
+    ensures { λ r. ⌜ r ≡ wordOf (answer (Instr.AddSubShifted Size.W o f Shift.Lsl rm 0 rn rd)) ⌝ }
 {
-    Instr::AddSubShifted(Size::W, o, f, Shift::Lsl, rm, 0, rn, rd)
+    words::add_sub_shifted(Size::W, o, f, Shift::Lsl, rm, 0, rn, rd)
 }
 
-fn logic(o: Logic, n: Second, rd: u32, rn: u32, rm: u32) -> Instr
-    ensures { λ r. ⌜ r ≡ Instr.LogicalShifted Size.W o n Shift.Lsl rm 0 rn rd ⌝ }
+fn logic(o: Logic, n: Second, rd: u32, rn: u32, rm: u32) -> u32
+    ensures { λ r. ⌜ r ≡ wordOf (answer (Instr.LogicalShifted Size.W o n Shift.Lsl rm 0 rn rd)) ⌝ }
 {
-    Instr::LogicalShifted(Size::W, o, n, Shift::Lsl, rm, 0, rn, rd)
+    words::logical_shifted(Size::W, o, n, Shift::Lsl, rm, 0, rn, rd)
 }
 
-fn csel(rd: u32, rn: u32, rm: u32, cond: u32) -> Instr
-    ensures { λ r. ⌜ r ≡ cselOf rd rn rm cond ⌝ }
+fn csel(rd: u32, rn: u32, rm: u32, cond: u32) -> u32
+    ensures { λ r. ⌜ r ≡ wordOf (answer (cselOf rd rn rm cond)) ⌝ }
 {
-    Instr::CondSelect(Size::W, Select::Csel, rm, cond, rn, rd)
+    words::cond_select(Size::W, Select::Csel, rm, cond, rn, rd)
 }
 
 // Bits lsb to last of w0, to w0.
-fn field(signed: bool, lsb: u32, last: u32) -> Instr
-    ensures { λ r. ⌜ r ≡ pick signed (Instr.Bitfield Size.W Extract.Sbfm lsb last 0 0) (Instr.Bitfield Size.W Extract.Ubfm lsb last 0 0) ⌝ }
+fn field(signed: bool, lsb: u32, last: u32) -> u32
+    ensures { λ r. ⌜ r ≡ wordOf (answer (pick signed (Instr.Bitfield Size.W Extract.Sbfm lsb last 0 0) (Instr.Bitfield Size.W Extract.Ubfm lsb last 0 0))) ⌝ }
 {
     if signed {
-        Instr::Bitfield(Size::W, Extract::Sbfm, lsb, last, 0, 0)
+        words::bitfield(Size::W, Extract::Sbfm, lsb, last, 0, 0)
     } else {
-        Instr::Bitfield(Size::W, Extract::Ubfm, lsb, last, 0, 0)
+        words::bitfield(Size::W, Extract::Ubfm, lsb, last, 0, 0)
     }
 }
 
 // ---- instructions
-pub fn fixed(f: Fixed) -> Instr
-    ensures { λ r. ⌜ r ≡ instrOf f ⌝ }
+pub fn named(f: Fixed) -> u32
+    ensures { λ r. ⌜ r ≡ wordOf (answer (instrOf f)) ⌝ }
 {
     match f {
-        Fixed::Movz11 => Instr::MoveWide(Size::W, Move::Movz, 0, 1, 1),
-        Fixed::Lslv112 => Instr::TwoSource(Size::W, Two::Lslv, 2, 1, 1),
+        Fixed::Movz11 => words::move_wide(Size::W, Move::Movz, 0, 1, 1),
+        Fixed::Lslv112 => words::two_source(Size::W, Two::Lslv, 2, 1, 1),
         Fixed::Cmp01 => sum(AddSub::Sub, Flags::Sets, ZR, 0, 1),
-        Fixed::CmpI00 => Instr::AddSubImm(Size::W, AddSub::Sub, Flags::Sets, 0, 0, ZR),
-        Fixed::CmpI10 => Instr::AddSubImm(Size::W, AddSub::Sub, Flags::Sets, 0, 1, ZR),
+        Fixed::CmpI00 => words::add_sub_imm(Size::W, AddSub::Sub, Flags::Sets, 0, 0, ZR),
+        Fixed::CmpI10 => words::add_sub_imm(Size::W, AddSub::Sub, Flags::Sets, 0, 1, ZR),
         Fixed::Tst01 => logic(Logic::Ands, Second::Plain, ZR, 0, 1),
         Fixed::Mvn00 => logic(Logic::Orr, Second::Inverted, 0, ZR, 0),
         Fixed::Neg00 => sum(AddSub::Sub, Flags::Keeps, 0, ZR, 0),
-        Fixed::CnegLt00 => Instr::CondSelect(Size::W, Select::Csneg, 0, GE, 0, 0),
-        Fixed::Rev00 => Instr::OneSource(One::Rev, 0, 0),
-        Fixed::Clz00 => Instr::OneSource(One::Clz, 0, 0),
+        Fixed::CnegLt00 => words::cond_select(Size::W, Select::Csneg, 0, GE, 0, 0),
+        Fixed::Rev00 => words::one_source(One::Rev, 0, 0),
+        Fixed::Clz00 => words::one_source(One::Clz, 0, 0),
         Fixed::Csel010Gt => csel(0, 1, 0, GT),
         Fixed::Csel010Lt => csel(0, 1, 0, LT),
         Fixed::Csel0z0Lt => csel(0, ZR, 0, LT),
         Fixed::Csel2z2Eq => csel(2, ZR, 2, EQ),
-        Fixed::Sdiv201 => Instr::TwoSource(Size::W, Two::Sdiv, 1, 0, 2),
-        Fixed::Udiv201 => Instr::TwoSource(Size::W, Two::Udiv, 1, 0, 2),
-        Fixed::Msub2210 => Instr::ThreeSource(Three::Msub, 1, 0, 2, 2),
+        Fixed::Sdiv201 => words::two_source(Size::W, Two::Sdiv, 1, 0, 2),
+        Fixed::Udiv201 => words::two_source(Size::W, Two::Udiv, 1, 0, 2),
+        Fixed::Msub2210 => words::three_source(Three::Msub, 1, 0, 2, 2),
         Fixed::And002 => logic(Logic::And, Second::Plain, 0, 0, 2),
         Fixed::And112 => logic(Logic::And, Second::Plain, 1, 1, 2),
         Fixed::And102 => logic(Logic::And, Second::Plain, 1, 0, 2),
@@ -112,17 +147,17 @@ pub fn fixed(f: Fixed) -> Instr
         Fixed::Eor102 => logic(Logic::Eor, Second::Plain, 1, 0, 2),
         Fixed::Add102 => sum(AddSub::Add, Flags::Keeps, 1, 0, 2),
         Fixed::Sub102 => sum(AddSub::Sub, Flags::Keeps, 1, 0, 2),
-        Fixed::AddI004 => Instr::AddSubImm(Size::W, AddSub::Add, Flags::Keeps, 4, 0, 0),
-        Fixed::SubI004 => Instr::AddSubImm(Size::W, AddSub::Sub, Flags::Keeps, 4, 0, 0),
-        Fixed::SubI001 => Instr::AddSubImm(Size::W, AddSub::Sub, Flags::Keeps, 1, 0, 0),
+        Fixed::AddI004 => words::add_sub_imm(Size::W, AddSub::Add, Flags::Keeps, 4, 0, 0),
+        Fixed::SubI004 => words::add_sub_imm(Size::W, AddSub::Sub, Flags::Keeps, 4, 0, 0),
+        Fixed::SubI001 => words::add_sub_imm(Size::W, AddSub::Sub, Flags::Keeps, 1, 0, 0),
         Fixed::Mov0Keep => logic(Logic::Orr, Second::Plain, 0, ZR, KEEP),
         Fixed::MovKeep0 => logic(Logic::Orr, Second::Plain, KEEP, ZR, 0),
     }
 }
 
 // w0 = op(w0, w1)
-pub fn alu(op: Op) -> Instr
-    ensures { λ r. ⌜ r ≡ aluOf op ⌝ }
+pub fn alu(op: Op) -> u32
+    ensures { λ r. ⌜ r ≡ wordOf (answer (aluOf op)) ⌝ }
 {
     match op {
         Op::Add => sum(AddSub::Add, Flags::Keeps, 0, 0, 1),
@@ -132,16 +167,16 @@ pub fn alu(op: Op) -> Instr
         Op::AndNot => logic(Logic::And, Second::Inverted, 0, 0, 1),
         Op::Or => logic(Logic::Orr, Second::Plain, 0, 0, 1),
         Op::Xor => logic(Logic::Eor, Second::Plain, 0, 0, 1),
-        Op::Mul => Instr::ThreeSource(Three::Madd, 1, ZR, 0, 0),
-        Op::Shl => Instr::TwoSource(Size::W, Two::Lslv, 1, 0, 0),
-        Op::Shr => Instr::TwoSource(Size::W, Two::Lsrv, 1, 0, 0),
-        Op::Sar => Instr::TwoSource(Size::W, Two::Asrv, 1, 0, 0),
+        Op::Mul => words::three_source(Three::Madd, 1, ZR, 0, 0),
+        Op::Shl => words::two_source(Size::W, Two::Lslv, 1, 0, 0),
+        Op::Shr => words::two_source(Size::W, Two::Lsrv, 1, 0, 0),
+        Op::Sar => words::two_source(Size::W, Two::Asrv, 1, 0, 0),
     }
 }
 
 // A part of w0, with its sign or without.
-pub fn ext(part: Part, signed: bool) -> Instr
-    ensures { λ r. ⌜ r ≡ extOf part signed ⌝ }
+pub fn ext(part: Part, signed: bool) -> u32
+    ensures { λ r. ⌜ r ≡ wordOf (answer (extOf part signed)) ⌝ }
 {
     match part {
         Part::Byte => field(signed, 0, 7),
@@ -151,8 +186,8 @@ pub fn ext(part: Part, signed: bool) -> Instr
 }
 
 // w0 or w1, by the flags
-pub fn select(kind: Choice) -> Instr
-    ensures { λ r. ⌜ r ≡ cselOf 0 0 1 (choice kind) ⌝ }
+pub fn select(kind: Choice) -> u32
+    ensures { λ r. ⌜ r ≡ wordOf (answer (cselOf 0 0 1 (choice kind))) ⌝ }
 {
     match kind {
         Choice::MinS => csel(0, 0, 1, LT),
@@ -163,30 +198,30 @@ pub fn select(kind: Choice) -> Instr
 }
 
 // w0 shifted
-pub fn lsl(n: u8) -> Instr
-    ensures { λ r. ⌜ r ≡ lslI 0 0 (n % 32) ⌝ }
+pub fn lsl(n: u8) -> u32
+    ensures { λ r. ⌜ r ≡ wordOf (answer (lslI 0 0 (n % 32))) ⌝ }
 {
     let sh = (n as u32) % 32;
-    Instr::Bitfield(Size::W, Extract::Ubfm, (32 - sh) % 32, 31 - sh, 0, 0)
+    words::bitfield(Size::W, Extract::Ubfm, (32 - sh) % 32, 31 - sh, 0, 0)
 }
 
-pub fn lsr(n: u8) -> Instr
-    ensures { λ r. ⌜ r ≡ lsrI 0 0 (n % 32) ⌝ }
+pub fn lsr(n: u8) -> u32
+    ensures { λ r. ⌜ r ≡ wordOf (answer (lsrI 0 0 (n % 32))) ⌝ }
 {
     field(false, (n as u32) % 32, 31)
 }
 
-pub fn asr(n: u8) -> Instr
-    ensures { λ r. ⌜ r ≡ asrI 0 0 (n % 32) ⌝ }
+pub fn asr(n: u8) -> u32
+    ensures { λ r. ⌜ r ≡ wordOf (answer (asrI 0 0 (n % 32))) ⌝ }
 {
     field(true, (n as u32) % 32, 31)
 }
 
 // w0 = w0 + w1 shifted
-pub fn add_lsl(n: u8) -> Instr
-    ensures { λ r. ⌜ r ≡ addLsl 0 0 1 (n % 32) ⌝ }
+pub fn add_lsl(n: u8) -> u32
+    ensures { λ r. ⌜ r ≡ wordOf (answer (addLsl 0 0 1 (n % 32))) ⌝ }
 {
-    Instr::AddSubShifted(
+    words::add_sub_shifted(
         Size::W,
         AddSub::Add,
         Flags::Keeps,
@@ -199,8 +234,8 @@ pub fn add_lsl(n: u8) -> Instr
 }
 
 // The l lowest bits of w0, l not 0 in 5 bits.
-pub fn low(l: u8, signed: bool) -> Instr
-    ensures { λ r. ⌜ r ≡ pick signed (sbfx 0 0 0 (l % 32)) (ubfx 0 0 0 (l % 32)) ⌝ }
+pub fn low(l: u8, signed: bool) -> u32
+    ensures { λ r. ⌜ r ≡ wordOf (answer (pick signed (sbfx 0 0 0 (l % 32)) (ubfx 0 0 0 (l % 32)))) ⌝ }
 {
     let n = (l as u32) % 32;
     if n == 0 {

@@ -56,7 +56,7 @@ fn emit(out: &mut [u32], tab: &mut [u64; 6152], b: Block) -> Lowered
     let exit = asm::new_label(asm::start());
     let a = jumps::opening(out, tab, exit.a);
     let q = lower::limit(out, tab, begun(a), b.layout, b.pc0, b.n);
-    let q = lower::emit_ops(out, tab, q, b);
+    let q = blockops::emit_ops(out, tab, q, b);
     let a = q.a;
     let sites = q.sites;
     let rc = q.rc;

@@ -30,8 +30,6 @@ use Rattle.lowering.specs.Steps.{Step as Meant, Field, rhs, base, low}
 use Rattle.asm.specs.declared.Asm.{Asm}
 use Rattle.asm.specs.State.{State, state}
 use Rattle.emission.specs.Total.{emitted, afterT, startsT}
-use Rattle.steps.specs.declared.Step.{Step}
-use Rattle.steps.specs.Expand.{expand}
 use Rattle.lower.specs.declared.Sites.{Sites}
 use Rattle.lower.specs.declared.Lowered.{Lowered}
 use Rattle.lower.specs.Lowers.{atsOf, targetsOf, kept, Lowers}
@@ -81,15 +79,15 @@ module _ (blk : Block) (ws t ws₁ t₁ : List ℕ) (q r : Lowered) (a : Asm) wh
   unfolding stepCode stepCache
   add-lowers d n v p k = code-lowers blk (Meant.addImm d n v) (addImm d n v) ws t ws₁ t₁ q r refl refl (from _ p (k .0)) (k .1) (k .2)
 
-  pub ldField-lowers : (f : Field) (off d : ℕ) (i : Instr) → fieldAt (blk .layout) f ≡ off → i ≡ MemoryImm LdrW (off / 4) CPU d → state ws₁ t₁ a ≡ emitted (i ∷ []) s → Plain → Lowers blk (Meant.ldField f d ∷ []) ws t q ws₁ t₁ r
+  pub ldField-lowers : (f : Field) (off d : ℕ) → fieldAt (blk .layout) f ≡ off → state ws₁ t₁ a ≡ emitted (MemoryImm LdrW (off / 4) CPU d ∷ []) s → Plain → Lowers blk (Meant.ldField f d ∷ []) ws t q ws₁ t₁ r
   unfolding stepCode stepCache
-  ldField-lowers f off d i o e p k =
-      code-lowers blk (Meant.ldField f d) (i ∷ []) ws t ws₁ t₁ q r (ap (λ j. code (j ∷ [])) (ap (λ m. MemoryImm LdrW (m / 4) CPU d) o ∙ sym e)) refl (from _ p (k .0)) (k .1) (k .2)
+  ldField-lowers f off d o p k =
+      code-lowers blk (Meant.ldField f d) (MemoryImm LdrW (off / 4) CPU d ∷ []) ws t ws₁ t₁ q r (ap (λ m. code (MemoryImm LdrW (m / 4) CPU d ∷ [])) o) refl (from _ p (k .0)) (k .1) (k .2)
 
-  pub stField-lowers : (f : Field) (off d : ℕ) (i : Instr) → fieldAt (blk .layout) f ≡ off → i ≡ MemoryImm StrW (off / 4) CPU d → state ws₁ t₁ a ≡ emitted (i ∷ []) s → Plain → Lowers blk (Meant.stField f d ∷ []) ws t q ws₁ t₁ r
+  pub stField-lowers : (f : Field) (off d : ℕ) → fieldAt (blk .layout) f ≡ off → state ws₁ t₁ a ≡ emitted (MemoryImm StrW (off / 4) CPU d ∷ []) s → Plain → Lowers blk (Meant.stField f d ∷ []) ws t q ws₁ t₁ r
   unfolding stepCode stepCache
-  stField-lowers f off d i o e p k =
-      code-lowers blk (Meant.stField f d) (i ∷ []) ws t ws₁ t₁ q r (ap (λ j. code (j ∷ [])) (ap (λ m. MemoryImm StrW (m / 4) CPU d) o ∙ sym e)) refl (from _ p (k .0)) (k .1) (k .2)
+  stField-lowers f off d o p k =
+      code-lowers blk (Meant.stField f d) (MemoryImm StrW (off / 4) CPU d ∷ []) ws t ws₁ t₁ q r (ap (λ m. code (MemoryImm StrW (m / 4) CPU d ∷ [])) o) refl (from _ p (k .0)) (k .1) (k .2)
 
   -- the cache moved on
   pub ldReg-lowers : (d g : ℕ) (rc : RegCache) → state ws₁ t₁ a ≡ emitted (ldReg (blk .layout) (q .rc) d g) s → rc ≡ seated (q .rc) g → (r .a ≡ a) × (r .rc ≡ rc) × (r .sites ≡ q .sites) → Lowers blk (Meant.ldReg d g ∷ []) ws t q ws₁ t₁ r
@@ -153,13 +151,7 @@ module _ (lay : Layout) (mem : Memory) (addr : Addresses) (ws t ws₁ t₁ : Lis
 
 -- ---- the arms
 module _ (blk : Block) (ws t ws₁ t₁ : List ℕ) (q r : Lowered) where
-  pub arm : (x p : Step) → x ≡ p → Lowers blk (expand p) ws t q ws₁ t₁ r → Lowers blk (expand x) ws t q ws₁ t₁ r
-  arm x p e h = rw e h
-
-  -- an instruction that is another, a number that is another
-  pub by-ins : (i j : Instr) → i ≡ j → Lowers blk (Meant.ins i ∷ []) ws t q ws₁ t₁ r → Lowers blk (Meant.ins j ∷ []) ws t q ws₁ t₁ r
-  by-ins i j e h = rw (← e) h
-
+  -- a number that is another
   pub by-mov32 : (d v w : ℕ) → v ≡ w → Lowers blk (Meant.mov32 d v ∷ []) ws t q ws₁ t₁ r → Lowers blk (Meant.mov32 d w ∷ []) ws t q ws₁ t₁ r
   by-mov32 d v w e h = rw (← e) h
 
@@ -175,8 +167,8 @@ module _ (blk : Block) (ws t ws₁ t₁ : List ℕ) (q r : Lowered) where
   pub by-rhs : (x p : Rk) (v : ℕ) → x ≡ p → Lowers blk (rhs p v) ws t q ws₁ t₁ r → Lowers blk (rhs x v) ws t q ws₁ t₁ r
   by-rhs x p v e h = rw e h
 
-  pub low-some : (l : ℕ) (u : Bool) (i : Instr) → (l % 32 ≡ 0 → ⊥) → i ≡ pick u (sbfx 0 0 0 (l % 32)) (ubfx 0 0 0 (l % 32)) → Lowers blk (Meant.ins i ∷ []) ws t q ws₁ t₁ r → Lowers blk (low (l % 32) u) ws t q ws₁ t₁ r
-  low-some l u i n e h = rw (ne-eqb (l % 32) 0 n, ← e) h
+  pub low-some : (l : ℕ) (u : Bool) → (l % 32 ≡ 0 → ⊥) → Lowers blk (Meant.ins (pick u (sbfx 0 0 0 (l % 32)) (ubfx 0 0 0 (l % 32))) ∷ []) ws t q ws₁ t₁ r → Lowers blk (low (l % 32) u) ws t q ws₁ t₁ r
+  low-some l u n h = rw (ne-eqb (l % 32) 0 n) h
 
 pub low-none : (blk : Block) (ws t : List ℕ) (q : Lowered) (l : ℕ) (u : Bool) → l % 32 ≡ 0 → Lowers blk (low (l % 32) u) ws t q ws t q
 low-none blk ws t q l u e = rw (eq-eqb (l % 32) 0 e) (none-lowers blk ws t q)

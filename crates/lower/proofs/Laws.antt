@@ -100,3 +100,28 @@ module _ (blk : Block) where
   code-lowers x is ws t ws₁ t₁ q r k m p c e =
       still-lowers x ws t ws₁ t₁ q r (ap (λ d. startsT d nowhere 0 (state ws t (q .a))) k) m
       (code-after nowhere 0 is (state ws t (q .a)) (state ws₁ t₁ (r .a)) p ∙ ap (λ d. afterT d nowhere 0 (state ws t (q .a))) (sym k)) c e
+
+-- so many lists of steps, one behind another
+pub lower2 : {blk : Block} {l₁ l₂ : List Meant} {ws₀ t₀ ws₁ t₁ ws₂ t₂ : List ℕ} {q₀ q₁ q₂ : Lowered} → Lowers blk l₁ ws₀ t₀ q₀ ws₁ t₁ q₁ → Lowers blk l₂ ws₁ t₁ q₁ ws₂ t₂ q₂ → Lowers blk (l₁ ++ l₂) ws₀ t₀ q₀ ws₂ t₂ q₂
+lower2 {blk = blk} h₁ h₂ = then-lowers blk _ _ _ _ _ _ _ _ _ _ _ h₁ h₂
+
+pub lower3 : {blk : Block} {l₁ l₂ l₃ : List Meant} {ws₀ t₀ ws₁ t₁ ws₂ t₂ ws₃ t₃ : List ℕ} {q₀ q₁ q₂ q₃ : Lowered} → Lowers blk l₁ ws₀ t₀ q₀ ws₁ t₁ q₁ → Lowers blk l₂ ws₁ t₁ q₁ ws₂ t₂ q₂ → Lowers blk l₃ ws₂ t₂ q₂ ws₃ t₃ q₃ → Lowers blk (l₁ ++ (l₂ ++ l₃)) ws₀ t₀ q₀ ws₃ t₃ q₃
+lower3 {blk = blk} h₁ h₂ h₃ = then-lowers blk _ _ _ _ _ _ _ _ _ _ _ h₁ (lower2 h₂ h₃)
+
+pub lower4 : {blk : Block} {l₁ l₂ l₃ l₄ : List Meant} {ws₀ t₀ ws₁ t₁ ws₂ t₂ ws₃ t₃ ws₄ t₄ : List ℕ} {q₀ q₁ q₂ q₃ q₄ : Lowered} → Lowers blk l₁ ws₀ t₀ q₀ ws₁ t₁ q₁ → Lowers blk l₂ ws₁ t₁ q₁ ws₂ t₂ q₂ → Lowers blk l₃ ws₂ t₂ q₂ ws₃ t₃ q₃ → Lowers blk l₄ ws₃ t₃ q₃ ws₄ t₄ q₄ → Lowers blk (l₁ ++ (l₂ ++ (l₃ ++ l₄))) ws₀ t₀ q₀ ws₄ t₄ q₄
+lower4 {blk = blk} h₁ h₂ h₃ h₄ = then-lowers blk _ _ _ _ _ _ _ _ _ _ _ h₁ (lower3 h₂ h₃ h₄)
+
+pub lower5 : {blk : Block} {l₁ l₂ l₃ l₄ l₅ : List Meant} {ws₀ t₀ ws₁ t₁ ws₂ t₂ ws₃ t₃ ws₄ t₄ ws₅ t₅ : List ℕ} {q₀ q₁ q₂ q₃ q₄ q₅ : Lowered} → Lowers blk l₁ ws₀ t₀ q₀ ws₁ t₁ q₁ → Lowers blk l₂ ws₁ t₁ q₁ ws₂ t₂ q₂ → Lowers blk l₃ ws₂ t₂ q₂ ws₃ t₃ q₃ → Lowers blk l₄ ws₃ t₃ q₃ ws₄ t₄ q₄ → Lowers blk l₅ ws₄ t₄ q₄ ws₅ t₅ q₅ → Lowers blk (l₁ ++ (l₂ ++ (l₃ ++ (l₄ ++ l₅)))) ws₀ t₀ q₀ ws₅ t₅ q₅
+lower5 {blk = blk} h₁ h₂ h₃ h₄ h₅ = then-lowers blk _ _ _ _ _ _ _ _ _ _ _ h₁ (lower4 h₂ h₃ h₄ h₅)
+
+pub lower6 : {blk : Block} {l₁ l₂ l₃ l₄ l₅ l₆ : List Meant} {ws₀ t₀ ws₁ t₁ ws₂ t₂ ws₃ t₃ ws₄ t₄ ws₅ t₅ ws₆ t₆ : List ℕ} {q₀ q₁ q₂ q₃ q₄ q₅ q₆ : Lowered} → Lowers blk l₁ ws₀ t₀ q₀ ws₁ t₁ q₁ → Lowers blk l₂ ws₁ t₁ q₁ ws₂ t₂ q₂ → Lowers blk l₃ ws₂ t₂ q₂ ws₃ t₃ q₃ → Lowers blk l₄ ws₃ t₃ q₃ ws₄ t₄ q₄ → Lowers blk l₅ ws₄ t₄ q₄ ws₅ t₅ q₅ → Lowers blk l₆ ws₅ t₅ q₅ ws₆ t₆ q₆ → Lowers blk (l₁ ++ (l₂ ++ (l₃ ++ (l₄ ++ (l₅ ++ l₆))))) ws₀ t₀ q₀ ws₆ t₆ q₆
+lower6 {blk = blk} h₁ h₂ h₃ h₄ h₅ h₆ = then-lowers blk _ _ _ _ _ _ _ _ _ _ _ h₁ (lower5 h₂ h₃ h₄ h₅ h₆)
+
+pub lower7 : {blk : Block} {l₁ l₂ l₃ l₄ l₅ l₆ l₇ : List Meant} {ws₀ t₀ ws₁ t₁ ws₂ t₂ ws₃ t₃ ws₄ t₄ ws₅ t₅ ws₆ t₆ ws₇ t₇ : List ℕ} {q₀ q₁ q₂ q₃ q₄ q₅ q₆ q₇ : Lowered} → Lowers blk l₁ ws₀ t₀ q₀ ws₁ t₁ q₁ → Lowers blk l₂ ws₁ t₁ q₁ ws₂ t₂ q₂ → Lowers blk l₃ ws₂ t₂ q₂ ws₃ t₃ q₃ → Lowers blk l₄ ws₃ t₃ q₃ ws₄ t₄ q₄ → Lowers blk l₅ ws₄ t₄ q₄ ws₅ t₅ q₅ → Lowers blk l₆ ws₅ t₅ q₅ ws₆ t₆ q₆ → Lowers blk l₇ ws₆ t₆ q₆ ws₇ t₇ q₇ → Lowers blk (l₁ ++ (l₂ ++ (l₃ ++ (l₄ ++ (l₅ ++ (l₆ ++ l₇)))))) ws₀ t₀ q₀ ws₇ t₇ q₇
+lower7 {blk = blk} h₁ h₂ h₃ h₄ h₅ h₆ h₇ = then-lowers blk _ _ _ _ _ _ _ _ _ _ _ h₁ (lower6 h₂ h₃ h₄ h₅ h₆ h₇)
+
+pub lower8 : {blk : Block} {l₁ l₂ l₃ l₄ l₅ l₆ l₇ l₈ : List Meant} {ws₀ t₀ ws₁ t₁ ws₂ t₂ ws₃ t₃ ws₄ t₄ ws₅ t₅ ws₆ t₆ ws₇ t₇ ws₈ t₈ : List ℕ} {q₀ q₁ q₂ q₃ q₄ q₅ q₆ q₇ q₈ : Lowered} → Lowers blk l₁ ws₀ t₀ q₀ ws₁ t₁ q₁ → Lowers blk l₂ ws₁ t₁ q₁ ws₂ t₂ q₂ → Lowers blk l₃ ws₂ t₂ q₂ ws₃ t₃ q₃ → Lowers blk l₄ ws₃ t₃ q₃ ws₄ t₄ q₄ → Lowers blk l₅ ws₄ t₄ q₄ ws₅ t₅ q₅ → Lowers blk l₆ ws₅ t₅ q₅ ws₆ t₆ q₆ → Lowers blk l₇ ws₆ t₆ q₆ ws₇ t₇ q₇ → Lowers blk l₈ ws₇ t₇ q₇ ws₈ t₈ q₈ → Lowers blk (l₁ ++ (l₂ ++ (l₃ ++ (l₄ ++ (l₅ ++ (l₆ ++ (l₇ ++ l₈))))))) ws₀ t₀ q₀ ws₈ t₈ q₈
+lower8 {blk = blk} h₁ h₂ h₃ h₄ h₅ h₆ h₇ h₈ = then-lowers blk _ _ _ _ _ _ _ _ _ _ _ h₁ (lower7 h₂ h₃ h₄ h₅ h₆ h₇ h₈)
+
+pub lower9 : {blk : Block} {l₁ l₂ l₃ l₄ l₅ l₆ l₇ l₈ l₉ : List Meant} {ws₀ t₀ ws₁ t₁ ws₂ t₂ ws₃ t₃ ws₄ t₄ ws₅ t₅ ws₆ t₆ ws₇ t₇ ws₈ t₈ ws₉ t₉ : List ℕ} {q₀ q₁ q₂ q₃ q₄ q₅ q₆ q₇ q₈ q₉ : Lowered} → Lowers blk l₁ ws₀ t₀ q₀ ws₁ t₁ q₁ → Lowers blk l₂ ws₁ t₁ q₁ ws₂ t₂ q₂ → Lowers blk l₃ ws₂ t₂ q₂ ws₃ t₃ q₃ → Lowers blk l₄ ws₃ t₃ q₃ ws₄ t₄ q₄ → Lowers blk l₅ ws₄ t₄ q₄ ws₅ t₅ q₅ → Lowers blk l₆ ws₅ t₅ q₅ ws₆ t₆ q₆ → Lowers blk l₇ ws₆ t₆ q₆ ws₇ t₇ q₇ → Lowers blk l₈ ws₇ t₇ q₇ ws₈ t₈ q₈ → Lowers blk l₉ ws₈ t₈ q₈ ws₉ t₉ q₉ → Lowers blk (l₁ ++ (l₂ ++ (l₃ ++ (l₄ ++ (l₅ ++ (l₆ ++ (l₇ ++ (l₈ ++ l₉)))))))) ws₀ t₀ q₀ ws₉ t₉ q₉
+lower9 {blk = blk} h₁ h₂ h₃ h₄ h₅ h₆ h₇ h₈ h₉ = then-lowers blk _ _ _ _ _ _ _ _ _ _ _ h₁ (lower8 h₂ h₃ h₄ h₅ h₆ h₇ h₈ h₉)

@@ -1,30 +1,31 @@
-// Steps to words: `emit_op`'s calls done one after the other, and `emit_ops`.
+// Each step that `emit_op` takes, to words: the words behind, the register cache and the chain sites.
 ghost use mathlib.Core.Path.{_≡_};
 ghost use mathlib.Core.List.{List, [], _∷_, _++_};
-ghost use Prim.Native.Nat.{ℕ, _+_, _%_, _<_};
-ghost use Rattle.block.specs.Block.{opsOf};
+ghost use Prim.Native.Nat.{ℕ, _%_, _<_};
 ghost use Rattle.code.specs.Items.{pick};
+ghost use Rattle.arm.specs.declared.Instr.{Instr};
 ghost use Rattle.lowering.specs.Given.{given};
 ghost use Rattle.lowering.specs.Fragments.{fieldAt};
-ghost use Rattle.lowering.specs.Steps.{Step as Meant, Field, rhs, base as baseOf, low as lowOf, opSteps, opsSteps};
-ghost use Rattle.steps.specs.Expand.{expand, expanded};
+ghost use Rattle.lowering.specs.Instrs.{addLsl, csel as cselOf, lslI, lsrI, asrI};
+ghost use Rattle.lowering.specs.Steps.{Step as Meant, Field, rhs, base as baseOf, low as lowOf, alu as aluOf, acond as acondOf, ext as extOf, choice, ones as onesOf, hole as holeOf, sign as signOf};
+ghost use Rattle.words.specs.Answers.{answer, wordOf};
+ghost use Rattle.choices.specs.Meaning.{instrOf};
 ghost use Rattle.lower.specs.Lowers.{atsOf, targetsOf, kept, Lowers};
-use arm::Instr;
 use asm::Asm;
 use block::Addresses;
-use block::BOp;
 use block::Base;
 use block::Block;
-use block::Fast;
+use block::Choice;
+use block::Cond;
 use block::Layout;
 use block::Memory;
+use block::Op;
+use block::Part;
 use block::Rk;
 use block::Width;
+use choices::Fixed;
 use emission::Held;
 use lowering::RegCache;
-use steps::Fixed;
-use steps::Step;
-use steps::Steps;
 
 // The chain sites so far: the first n word positions, each with the guest address that it goes on at.
 pub struct Sites {
@@ -73,15 +74,16 @@ fn held(q: Lowered, h: Held) -> Lowered
     Lowered { a, rc, sites }
 }
 
-fn ins(out: &mut [u32], tab: &mut [u64; 6152], q: Lowered, i: Instr) -> Lowered
-    ensures { λ r. ⌜ ((blk : Block) → Lowers blk (Meant.ins i ∷ []) (now (out .entry)) (now (tab .entry)) q (now (out .exit)) (now (tab .exit)) r) ⌝ }
+// One instruction by its word.
+fn ins(out: &mut [u32], tab: &mut [u64; 6152], q: Lowered, w: u32) -> Lowered
+    ensures { λ r. ⌜ ((blk : Block) (i : Instr) → w ≡ wordOf (answer i) → Lowers blk (Meant.ins i ∷ []) (now (out .entry)) (now (tab .entry)) q (now (out .exit)) (now (tab .exit)) r) ⌝ }
 {
     let a = q.a;
-    plain(q, emission::ins(out, tab, a, i))
+    plain(q, emission::ins(out, tab, a, w))
 }
 
 // w(t) = v
-fn mov32(out: &mut [u32], tab: &mut [u64; 6152], q: Lowered, t: u32, v: u32) -> Lowered
+pub fn mov32(out: &mut [u32], tab: &mut [u64; 6152], q: Lowered, t: u32, v: u32) -> Lowered
     ensures { λ r. ⌜ ((blk : Block) → Lowers blk (Meant.mov32 t v ∷ []) (now (out .entry)) (now (tab .entry)) q (now (out .exit)) (now (tab .exit)) r) ⌝ }
 {
     let a = q.a;
@@ -89,22 +91,105 @@ fn mov32(out: &mut [u32], tab: &mut [u64; 6152], q: Lowered, t: u32, v: u32) -> 
 }
 
 // w(d) = w(s) + v
-fn add_imm(out: &mut [u32], tab: &mut [u64; 6152], q: Lowered, d: u32, s: u32, v: u32) -> Lowered
+pub fn add_imm(
+    out: &mut [u32],
+    tab: &mut [u64; 6152],
+    q: Lowered,
+    d: u32,
+    s: u32,
+    v: u32,
+) -> Lowered
     ensures { λ r. ⌜ ((blk : Block) → Lowers blk (Meant.addImm d s v ∷ []) (now (out .entry)) (now (tab .entry)) q (now (out .exit)) (now (tab .exit)) r) ⌝ }
 {
     let a = q.a;
     plain(q, moves::add_imm(out, tab, a, d, s, v))
 }
 
+// An instruction by its name.
+pub fn named(out: &mut [u32], tab: &mut [u64; 6152], q: Lowered, f: Fixed) -> Lowered
+    ensures { λ r. ⌜ ((blk : Block) → Lowers blk (Meant.ins (instrOf f) ∷ []) (now (out .entry)) (now (tab .entry)) q (now (out .exit)) (now (tab .exit)) r) ⌝ }
+{
+    ins(out, tab, q, choices::named(f))
+}
+
+// w0 = op(w0, w1)
+pub fn alu(out: &mut [u32], tab: &mut [u64; 6152], q: Lowered, op: Op) -> Lowered
+    ensures { λ r. ⌜ ((blk : Block) → Lowers blk (Meant.ins (aluOf op) ∷ []) (now (out .entry)) (now (tab .entry)) q (now (out .exit)) (now (tab .exit)) r) ⌝ }
+{
+    ins(out, tab, q, choices::alu(op))
+}
+
+// A part of w0, with its sign or without.
+pub fn ext(out: &mut [u32], tab: &mut [u64; 6152], q: Lowered, part: Part, signed: bool) -> Lowered
+    ensures { λ r. ⌜ ((blk : Block) → Lowers blk (Meant.ins (extOf part signed) ∷ []) (now (out .entry)) (now (tab .entry)) q (now (out .exit)) (now (tab .exit)) r) ⌝ }
+{
+    ins(out, tab, q, choices::ext(part, signed))
+}
+
+// w0 or w1, by the flags
+pub fn select(out: &mut [u32], tab: &mut [u64; 6152], q: Lowered, kind: Choice) -> Lowered
+    ensures { λ r. ⌜ ((blk : Block) → Lowers blk (Meant.ins (cselOf 0 0 1 (choice kind)) ∷ []) (now (out .entry)) (now (tab .entry)) q (now (out .exit)) (now (tab .exit)) r) ⌝ }
+{
+    ins(out, tab, q, choices::select(kind))
+}
+
+// w0 shifted
+pub fn lsl(out: &mut [u32], tab: &mut [u64; 6152], q: Lowered, n: u8) -> Lowered
+    ensures { λ r. ⌜ ((blk : Block) → Lowers blk (Meant.ins (lslI 0 0 (n % 32)) ∷ []) (now (out .entry)) (now (tab .entry)) q (now (out .exit)) (now (tab .exit)) r) ⌝ }
+{
+    ins(out, tab, q, choices::lsl(n))
+}
+
+// The same to the right, and with the sign.
+pub fn lsr(out: &mut [u32], tab: &mut [u64; 6152], q: Lowered, n: u8) -> Lowered
+    ensures { λ r. ⌜ ((blk : Block) → Lowers blk (Meant.ins (lsrI 0 0 (n % 32)) ∷ []) (now (out .entry)) (now (tab .entry)) q (now (out .exit)) (now (tab .exit)) r) ⌝ }
+{
+    ins(out, tab, q, choices::lsr(n))
+}
+
+pub fn asr(out: &mut [u32], tab: &mut [u64; 6152], q: Lowered, n: u8) -> Lowered
+    ensures { λ r. ⌜ ((blk : Block) → Lowers blk (Meant.ins (asrI 0 0 (n % 32)) ∷ []) (now (out .entry)) (now (tab .entry)) q (now (out .exit)) (now (tab .exit)) r) ⌝ }
+{
+    ins(out, tab, q, choices::asr(n))
+}
+
+// w0 = w0 + w1 shifted
+pub fn add_lsl(out: &mut [u32], tab: &mut [u64; 6152], q: Lowered, n: u8) -> Lowered
+    ensures { λ r. ⌜ ((blk : Block) → Lowers blk (Meant.ins (addLsl 0 0 1 (n % 32)) ∷ []) (now (out .entry)) (now (tab .entry)) q (now (out .exit)) (now (tab .exit)) r) ⌝ }
+{
+    ins(out, tab, q, choices::add_lsl(n))
+}
+
+// w2 = so many ones
+pub fn ones(out: &mut [u32], tab: &mut [u64; 6152], q: Lowered, l: u8) -> Lowered
+    ensures { λ r. ⌜ ((blk : Block) → Lowers blk (Meant.mov32 2 (onesOf (l % 32)) ∷ []) (now (out .entry)) (now (tab .entry)) q (now (out .exit)) (now (tab .exit)) r) ⌝ }
+{
+    mov32(out, tab, q, 2, choices::ones(l))
+}
+
+// w2 = all bits but so many, from p on
+pub fn hole(out: &mut [u32], tab: &mut [u64; 6152], q: Lowered, p: u8, l: u8) -> Lowered
+    ensures { λ r. ⌜ ((blk : Block) → Lowers blk (Meant.mov32 2 (holeOf (p % 32) (l % 32)) ∷ []) (now (out .entry)) (now (tab .entry)) q (now (out .exit)) (now (tab .exit)) r) ⌝ }
+{
+    mov32(out, tab, q, 2, choices::hole(p, l))
+}
+
+// w0 = the sign of v in every bit
+pub fn sign(out: &mut [u32], tab: &mut [u64; 6152], q: Lowered, v: u32) -> Lowered
+    ensures { λ r. ⌜ ((blk : Block) → Lowers blk (Meant.mov32 0 (signOf v) ∷ []) (now (out .entry)) (now (tab .entry)) q (now (out .exit)) (now (tab .exit)) r) ⌝ }
+{
+    mov32(out, tab, q, 0, choices::sign(v))
+}
+
 // w(t) = the field at an offset of the processor record, and back
-fn ld_field(out: &mut [u32], tab: &mut [u64; 6152], q: Lowered, off: u32, t: u32) -> Lowered
+pub fn ld_field(out: &mut [u32], tab: &mut [u64; 6152], q: Lowered, off: u32, t: u32) -> Lowered
     ensures { λ r. ⌜ ((blk : Block) (f : Field) → fieldAt (blk .layout) f ≡ off → Lowers blk (Meant.ldField f t ∷ []) (now (out .entry)) (now (tab .entry)) q (now (out .exit)) (now (tab .exit)) r) ⌝ }
 {
     let a = q.a;
     plain(q, emission::ins(out, tab, a, cache::ldr(t, off / 4)))
 }
 
-fn st_field(out: &mut [u32], tab: &mut [u64; 6152], q: Lowered, off: u32, t: u32) -> Lowered
+pub fn st_field(out: &mut [u32], tab: &mut [u64; 6152], q: Lowered, off: u32, t: u32) -> Lowered
     ensures { λ r. ⌜ ((blk : Block) (f : Field) → fieldAt (blk .layout) f ≡ off → Lowers blk (Meant.stField f t ∷ []) (now (out .entry)) (now (tab .entry)) q (now (out .exit)) (now (tab .exit)) r) ⌝ }
 {
     let a = q.a;
@@ -112,7 +197,14 @@ fn st_field(out: &mut [u32], tab: &mut [u64; 6152], q: Lowered, off: u32, t: u32
 }
 
 // w(t) = guest register r, and back
-fn ld_reg(out: &mut [u32], tab: &mut [u64; 6152], q: Lowered, lay: Layout, t: u32, r: u8) -> Lowered
+pub fn ld_reg(
+    out: &mut [u32],
+    tab: &mut [u64; 6152],
+    q: Lowered,
+    lay: Layout,
+    t: u32,
+    r: u8,
+) -> Lowered
     ensures { λ p. ⌜ ((mem : Memory) (addr : Addresses) → Lowers (given lay mem addr) (Meant.ldReg t r ∷ []) (now (out .entry)) (now (tab .entry)) q (now (out .exit)) (now (tab .exit)) p) ⌝ }
 {
     let a = q.a;
@@ -120,7 +212,14 @@ fn ld_reg(out: &mut [u32], tab: &mut [u64; 6152], q: Lowered, lay: Layout, t: u3
     held(q, emission::ld_reg(out, tab, a, lay, rc, t, r))
 }
 
-fn st_reg(out: &mut [u32], tab: &mut [u64; 6152], q: Lowered, lay: Layout, t: u32, r: u8) -> Lowered
+pub fn st_reg(
+    out: &mut [u32],
+    tab: &mut [u64; 6152],
+    q: Lowered,
+    lay: Layout,
+    t: u32,
+    r: u8,
+) -> Lowered
     ensures { λ p. ⌜ ((mem : Memory) (addr : Addresses) → Lowers (given lay mem addr) (Meant.stReg t r ∷ []) (now (out .entry)) (now (tab .entry)) q (now (out .exit)) (now (tab .exit)) p) ⌝ }
 {
     let a = q.a;
@@ -129,7 +228,7 @@ fn st_reg(out: &mut [u32], tab: &mut [u64; 6152], q: Lowered, lay: Layout, t: u3
 }
 
 // w0 = a base
-fn ld_base(out: &mut [u32], tab: &mut [u64; 6152], q: Lowered, lay: Layout, b: Base) -> Lowered
+pub fn ld_base(out: &mut [u32], tab: &mut [u64; 6152], q: Lowered, lay: Layout, b: Base) -> Lowered
     ensures { λ r. ⌜ ((mem : Memory) (addr : Addresses) → Lowers (given lay mem addr) (baseOf b ∷ []) (now (out .entry)) (now (tab .entry)) q (now (out .exit)) (now (tab .exit)) r) ⌝ }
 {
     match b {
@@ -146,7 +245,7 @@ fn nibble(v: u32) -> u8
 }
 
 // w1 = a right-hand side: a register, a number, or `1 << register`
-fn set_rhs(
+pub fn set_rhs(
     out: &mut [u32],
     tab: &mut [u64; 6152],
     q: Lowered,
@@ -161,14 +260,14 @@ fn set_rhs(
         Rk::Imm => mov32(out, tab, q, 1, rv),
         Rk::Bit => {
             let q = ld_reg(out, tab, q, lay, 2, nibble(rv));
-            let q = ins(out, tab, q, choices::fixed(Fixed::Movz11));
-            ins(out, tab, q, choices::fixed(Fixed::Lslv112))
+            let q = named(out, tab, q, Fixed::Movz11);
+            named(out, tab, q, Fixed::Lslv112)
         }
     }
 }
 
 // The l lowest bits of w0, every bit where l is 0.
-fn low(out: &mut [u32], tab: &mut [u64; 6152], q: Lowered, l: u8, signed: bool) -> Lowered
+pub fn low(out: &mut [u32], tab: &mut [u64; 6152], q: Lowered, l: u8, signed: bool) -> Lowered
     ensures { λ r. ⌜ ((blk : Block) → Lowers blk (lowOf (l % 32) signed) (now (out .entry)) (now (tab .entry)) q (now (out .exit)) (now (tab .exit)) r) ⌝ }
 {
     if l % 32 == 0 {
@@ -177,7 +276,7 @@ fn low(out: &mut [u32], tab: &mut [u64; 6152], q: Lowered, l: u8, signed: bool) 
     ins(out, tab, q, choices::low(l, signed))
 }
 
-fn load(
+pub fn load(
     out: &mut [u32],
     tab: &mut [u64; 6152],
     q: Lowered,
@@ -198,7 +297,7 @@ fn load(
     )
 }
 
-fn store(
+pub fn store(
     out: &mut [u32],
     tab: &mut [u64; 6152],
     q: Lowered,
@@ -215,7 +314,7 @@ fn store(
     plain(q, memops::store(out, tab, a, lay, mem, addr, rc, w, i))
 }
 
-fn chain(
+pub fn chain(
     out: &mut [u32],
     tab: &mut [u64; 6152],
     q: Lowered,
@@ -254,7 +353,7 @@ fn fork(
     Lowered { a, rc, sites }
 }
 
-fn ind(
+pub fn ind(
     out: &mut [u32],
     tab: &mut [u64; 6152],
     q: Lowered,
@@ -274,7 +373,7 @@ fn ind(
     )
 }
 
-fn check_brk_hold(
+pub fn check_brk_hold(
     out: &mut [u32],
     tab: &mut [u64; 6152],
     q: Lowered,
@@ -309,6 +408,22 @@ pub fn limit(
     plain(q, jumps::limit(out, tab, a, lay, rc, pc, count))
 }
 
+// Go on at target if the condition holds, else at pc.
+pub fn fork_if(
+    out: &mut [u32],
+    tab: &mut [u64; 6152],
+    q: Lowered,
+    lay: Layout,
+    cond: Cond,
+    pc: u32,
+    target: u32,
+    count: u32,
+) -> Lowered
+    ensures { λ r. ⌜ ((mem : Memory) (addr : Addresses) → Lowers (given lay mem addr) (Meant.fork (acondOf cond) pc target count ∷ []) (now (out .entry)) (now (tab .entry)) q (now (out .exit)) (now (tab .exit)) r) ⌝ }
+{
+    fork(out, tab, q, lay, choices::acond(cond), pc, target, count)
+}
+
 // Not equal, or equal.
 fn test(ne: bool) -> u32
     ensures { λ r. ⌜ (r ≡ pick ne 1 0) × (r < 16) ⌝ }
@@ -316,143 +431,18 @@ fn test(ne: bool) -> u32
     if ne { 1 } else { 0 }
 }
 
-// One step.
-fn lower_step(
+// The same by the Z flag: not equal, or equal.
+pub fn fork_test(
     out: &mut [u32],
     tab: &mut [u64; 6152],
     q: Lowered,
     lay: Layout,
-    mem: Memory,
-    addr: Addresses,
-    step: Step,
+    ne: bool,
+    pc: u32,
+    target: u32,
+    count: u32,
 ) -> Lowered
-    ensures { λ r. ⌜ (Lowers (given lay mem addr) (expand step) (now (out .entry)) (now (tab .entry)) q (now (out .exit)) (now (tab .exit)) r) ⌝ }
+    ensures { λ r. ⌜ ((mem : Memory) (addr : Addresses) → Lowers (given lay mem addr) (Meant.fork (pick ne 1 0) pc target count ∷ []) (now (out .entry)) (now (tab .entry)) q (now (out .exit)) (now (tab .exit)) r) ⌝ }
 {
-    match step {
-        Step::End => q,
-        Step::LdReg(t, r) => ld_reg(out, tab, q, lay, t, r),
-        Step::StReg(t, r) => st_reg(out, tab, q, lay, t, r),
-        Step::LdBase(b) => ld_base(out, tab, q, lay, b),
-        Step::LdSp(t) => ld_field(out, tab, q, lay.sp, t),
-        Step::StSp(t) => st_field(out, tab, q, lay.sp, t),
-        Step::LdRets(t) => ld_field(out, tab, q, lay.rets, t),
-        Step::StRets(t) => st_field(out, tab, q, lay.rets, t),
-        Step::Mov32(t, v) => mov32(out, tab, q, t, v),
-        Step::AddImm(d, s, v) => add_imm(out, tab, q, d, s, v),
-        Step::SetRhs(rk, rv) => set_rhs(out, tab, q, lay, rk, rv),
-        Step::Ins(f) => ins(out, tab, q, choices::fixed(f)),
-        Step::Alu(op) => ins(out, tab, q, choices::alu(op)),
-        Step::Ext(part, signed) => ins(out, tab, q, choices::ext(part, signed)),
-        Step::MinMax(kind) => ins(out, tab, q, choices::select(kind)),
-        Step::Lsl(n) => ins(out, tab, q, choices::lsl(n)),
-        Step::Lsr(n) => ins(out, tab, q, choices::lsr(n)),
-        Step::Asr(n) => ins(out, tab, q, choices::asr(n)),
-        Step::AddLsl(n) => ins(out, tab, q, choices::add_lsl(n)),
-        Step::Low(l, signed) => low(out, tab, q, l, signed),
-        Step::Ones(l) => mov32(out, tab, q, 2, choices::ones(l)),
-        Step::Hole(p, l) => mov32(out, tab, q, 2, choices::hole(p, l)),
-        Step::Sign(v) => mov32(out, tab, q, 0, choices::sign(v)),
-        Step::Load(w, signed, i) => load(out, tab, q, lay, mem, addr, w, signed, i),
-        Step::Store(w, i) => store(out, tab, q, lay, mem, addr, w, i),
-        Step::Chain(pc, count) => chain(out, tab, q, lay, pc, count),
-        Step::Fork(cond, pc, target, count) => fork(
-            out,
-            tab,
-            q,
-            lay,
-            choices::acond(cond),
-            pc,
-            target,
-            count,
-        ),
-        Step::TestFork(ne, pc, target, count) => fork(
-            out,
-            tab,
-            q,
-            lay,
-            test(ne),
-            pc,
-            target,
-            count,
-        ),
-        Step::Ind(t, count, brk) => ind(out, tab, q, lay, addr, t, count, brk),
-    }
-}
-
-// The steps of an operation, in order.
-fn lower_steps(
-    steps: Steps,
-    out: &mut [u32],
-    tab: &mut [u64; 6152],
-    q: Lowered,
-    lay: Layout,
-    mem: Memory,
-    addr: Addresses,
-) -> Lowered
-    ensures { λ r. ⌜ (Lowers (given lay mem addr) (expanded steps) (now (out .entry)) (now (tab .entry)) q (now (out .exit)) (now (tab .exit)) r) ⌝ }
-{
-    let n = steps.n as usize;
-    let mut q = q;
-    let mut i: usize = 0;
-    while i < 10 {
-        if i == n {
-            return q;
-        }
-        let cell = steps.cells[i];
-        let step = cell.step;
-        q = lower_step(out, tab, q, lay, mem, addr, step);
-        i += 1;
-    }
-    q
-}
-
-// The operation at position i, `next` the guest address behind it; kinds that use the bus are followed by a break check.
-fn lower_op(
-    out: &mut [u32],
-    tab: &mut [u64; 6152],
-    q: Lowered,
-    lay: Layout,
-    mem: Memory,
-    addr: Addresses,
-    o: BOp,
-    i: u32,
-    next: u32,
-) -> Lowered
-    requires { ⌜ i < 32 ⌝ }
-    ensures { λ r. ⌜ (Lowers (given lay mem addr) (opSteps o i next) (now (out .entry)) (now (tab .entry)) q (now (out .exit)) (now (tab .exit)) r) ⌝ }
-{
-    let fast = o.fast;
-    let q = lower_steps(steps::emit_op(fast, i, next), out, tab, q, lay, mem, addr);
-    if choices::uses_bus(fast) {
-        return check_brk_hold(out, tab, q, lay, o.glue, next, i + 1);
-    }
-    q
-}
-
-// The operations in order; off the end of the block goes a chain, behind a jump nothing.
-pub fn emit_ops(out: &mut [u32], tab: &mut [u64; 6152], q: Lowered, b: Block) -> Lowered
-    ensures { λ r. ⌜ (Lowers b (opsSteps 0 (b .pc0) (opsOf b)) (now (out .entry)) (now (tab .entry)) q (now (out .exit)) (now (tab .exit)) r) ⌝ }
-{
-    let lay = b.layout;
-    let mem = b.memory;
-    let addr = b.addresses;
-    let n = b.n;
-    let mut q = q;
-    let mut pc = b.pc0;
-    let mut i: u32 = 0;
-    while i < 32 {
-        if i == n {
-            return chain(out, tab, q, lay, pc, i);
-        }
-        let o = b.ops[i as usize];
-        let fast = o.fast;
-        let next = std::num::wrapping_add_u32(pc, o.len as u32);
-        q = lower_op(out, tab, q, lay, mem, addr, o, i, next);
-        if choices::may_jump(fast) {
-            return q;
-        }
-        pc = next;
-        i += 1;
-    }
-    chain(out, tab, q, lay, pc, i)
+    fork(out, tab, q, lay, test(ne), pc, target, count)
 }

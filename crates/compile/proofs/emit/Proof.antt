@@ -1,7 +1,7 @@
 use borrow.Author.Needs.{needs}
 use mathlib.Core.Path.{refl, ap, _∙_}
 use Rattle.asm.specs.State.{made}
-use Rattle.lower.proofs.Loop.{of-block}
+use Rattle.blockops.proofs.Loop.{of-block}
 use Rattle.compile.proofs.Laws.{emits}
 use Rattle.compile.proofs.emit.Statement.{statement}
 use Rattle.compile.proofs.emit.Tie as tie
