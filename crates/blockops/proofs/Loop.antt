@@ -7,9 +7,6 @@ use native.Mathlib.Numerals.{add-one}
 use native.Mathlib.Omega.{arith}
 use lib.ListN.{take, drop, length, getD, drop-of-length-le}
 use lib.Seq.{take-suc, take-all, drop-cons}
-use Rattle.block.specs.declared.Op.{Op}
-use Rattle.block.specs.declared.Fast.{Fast}
-use Rattle.block.specs.declared.Fast.the-variants.{Nop, Alu3, Alu3I, Alu2, Alu2I}
 use Rattle.block.specs.declared.BOp.{BOp}
 use Rattle.block.specs.declared.Block.{Block}
 use Rattle.block.specs.Block.{opsOf, mayJump, usesBus}
@@ -22,7 +19,7 @@ use Rattle.lowering.specs.Given.{given}
 use Rattle.lowering.specs.Steps.{Step as Meant, lowered, behind, opSteps, opsSteps}
 use Rattle.lower.specs.declared.Lowered.{Lowered}
 use Rattle.lower.specs.Lowers.{atsOf, targetsOf, kept, Lowers}
-use Rattle.lower.proofs.Laws.{none-lowers, then-lowers}
+use Rattle.lower.proofs.Laws.{then-lowers}
 
 -- an array of structs has as many elements as the array of their values
 pub length-mapped : (X Y : Type 0) (f : X → Y) (l : List X) (n : ℕ) → length (map f l) ≡ n → length l ≡ n
@@ -32,26 +29,7 @@ length-mapped X Y f l n p = sym (mapped f l) ∙ p
     mapped f [] = refl
     mapped f (x ∷ l) = ap suc (mapped f l)
 
--- ---- an operation
-module _ (blk : Block) (ws t ws₁ t₁ : List ℕ) (q r : Lowered) where
-  -- in the arm of a case, the steps are that case's
-  pub arm : (f p : Fast) (i next : ℕ) → f ≡ p → Lowers blk (lowered p i next) ws t q ws₁ t₁ r → Lowers blk (lowered f i next) ws t q ws₁ t₁ r
-  arm f p i next e h = rw e h
-
-  -- two operands are three with the first twice
-  pub as-alu3 : (d b : ℕ) (op : Op) (i next : ℕ) → Lowers blk (lowered (Alu3 d d b op) i next) ws t q ws₁ t₁ r → Lowers blk (lowered (Alu2 d b op) i next) ws t q ws₁ t₁ r
-  unfolding lowered
-  as-alu3 d b op i next h = h
-
-  pub as-alu3I : (d v : ℕ) (op : Op) (i next : ℕ) → Lowers blk (lowered (Alu3I d d v op) i next) ws t q ws₁ t₁ r → Lowers blk (lowered (Alu2I d v op) i next) ws t q ws₁ t₁ r
-  unfolding lowered
-  as-alu3I d v op i next h = h
-
-pub nop-lowers : (blk : Block) (ws t : List ℕ) (q : Lowered) (i next : ℕ) → Lowers blk (lowered Nop i next) ws t q ws t q
-unfolding lowered
-nop-lowers blk ws t q i next = none-lowers blk ws t q
-
--- the break check
+-- ---- an operation, and the break check
 module _ (blk : Block) (o : BOp) (i next : ℕ) (u : Bool) (e : u ≡ usesBus (o .fast)) (ws t ws₁ t₁ : List ℕ) (q r : Lowered) (h : Lowers blk (lowered (o .fast) i next) ws t q ws₁ t₁ r) where
   abbrev check : List Meant
   check = Meant.checkBrk (o .glue) next (i + 1) ∷ []

@@ -1,9 +1,9 @@
 use borrow.Author.Needs.{needs}
 use mathlib.Core.Path.{refl}
 use native.Mathlib.Omega.{arith}
-use Rattle.blockops.proofs.Loop.{arm, nop-lowers, as-alu3, as-alu3I}
-use Rattle.blockops.proofs.emit_op.Statement.{statement}
-use Rattle.blockops.proofs.emit_op.Tie as tie
+use Rattle.dispatch.proofs.Arms.{arm, nop-lowers, as-alu3, as-alu3I}
+use Rattle.dispatch.proofs.emit_op.Statement.{statement}
+use Rattle.dispatch.proofs.emit_op.Tie as tie
 
 returns : tie.Need-returns
 returns c = arm _ _ _ _ _ _ _ _ _ _ _ (c .enum-told .given .1) (nop-lowers _ _ _ _ _ _)
