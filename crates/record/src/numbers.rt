@@ -1,6 +1,6 @@
 // Little-endian numbers of a part of the record. A byte beyond its end counts as 0.
 ghost use mathlib.Core.Path.{_≡_};
-ghost use Prim.Native.Nat.{_<_};
+ghost use Prim.Native.Nat.{_+_, _*_, _<_};
 ghost use Rattle.record.specs.Kinds.{low as lowOf};
 ghost use Rattle.record.specs.Record.{byteAt, num16, num32, num64};
 
@@ -20,10 +20,20 @@ pub fn get16(s: &[u8], i: usize) -> u32
     (byte(s, i) as u32) + 256 * (byte(s, i + 1) as u32)
 }
 
+// Four bytes of a part, the lowest first: with one test for all of them they compile to one load.
+fn joined(a: u8, b: u8, c: u8, d: u8) -> u32
+    ensures { λ r. ⌜ r ≡ a + 256 * b + 65536 * (c + 256 * d) ⌝ }
+{
+    (a as u32) + 256 * (b as u32) + 65536 * ((c as u32) + 256 * (d as u32))
+}
+
 pub fn get32(s: &[u8], i: usize) -> u32
     requires { ⌜ i < 18446744073709551604 ⌝ }
     ensures { λ r. ⌜ r ≡ num32 (now (s .entry)) i ⌝ }
 {
+    if i + 3 < s.len() {
+        return joined(s[i], s[i + 1], s[i + 2], s[i + 3]);
+    }
     get16(s, i) + 65536 * get16(s, i + 2)
 }
 
