@@ -1,12 +1,14 @@
 -- Laws that several functions' proofs use.
-use mathlib.Core.Path.{_≡_, refl, sym, ap}
+use mathlib.Core.Path.{_≡_, refl, sym, ap, _∙_}
 use mathlib.Core.Bool.{Bool, true, false, not, _||_}
 use mathlib.Core.List.{List}
 use Prim.Native.Nat.{ℕ, zero, suc, _+_, _-_, _≤_, _<_, zero-le}
 use native.Mathlib.Omega.{arith}
 use borrow.Author.Tests.{ltb-false, eqb-true}
 use lib.Dec.{ltb, eqb}
-use lib.ListN.{length, getD, take, drop, List·getD-eq-default}
+use native.Mathlib.Nat.{add-zero}
+use lib.ListN.{length, getD, take, drop, length-take, List·getD-eq-default}
+use lib.Seq.{getD-take, getD-drop}
 use Rattle.record.specs.Record.{_gives_, _then_, byteAt, payloadLength, payload, cut, fieldFault, layoutField, memoryField, addressesField, startField}
 
 -- a table's default, beyond its end
@@ -90,6 +92,13 @@ pub payload-range : (s : List ℕ) (at n : ℕ) → n ≡ payloadLength s at →
 payload-range s at n e =
     let h : at + 3 + n - (at + 3) ≡ payloadLength s at = omega (arith, e) in
     ap (λ (k : ℕ). take k (drop (at + 3) s)) h
+
+-- a payload's first byte
+pub payload-head : (s : List ℕ) (at : ℕ) → 3 ≤ length (payload s at) → byteAt (payload s at) 0 ≡ byteAt s (at + 3)
+payload-head s at h =
+    let l = length-take (payloadLength s at) (drop (at + 3) s) in
+    let n : 0 < payloadLength s at = omega (arith, l) in
+    getD-take (payloadLength s at) (drop (at + 3) s) 0 0 n ∙ getD-drop (at + 3) s 0 0 ∙ ap (byteAt s) (add-zero (at + 3))
 
 -- a field of fixed length without a fault, and its header
 

@@ -11,14 +11,13 @@ use lib.Dec.{leb, ltb, eqb}
 use lib.ListN.{length, getD, set, length-set}
 use lib.Seq.{getD-set-same}
 use Rattle.block.specs.declared.BOp.{BOp}
-use Rattle.block.specs.declared.Layout.{Layout}
-use Rattle.block.specs.declared.Memory.{Memory}
-use Rattle.block.specs.declared.Addresses.{Addresses}
 use Rattle.block.specs.declared.Block.{Block}
 use Rattle.block.specs.Block.{kindOf, mayJump}
 use Rattle.record.specs.Kinds.{Kind, kinds, kindAt, fastOf}
-use Rattle.record.specs.Record.{_gives_, byteAt, payloadLength, payload, cut, operandsFit, operands, contentsFault, operationOf, nop, lastJumps, operationFault, Reading, accepted, refused, refusedOr, push, operations}
-use Rattle.record.proofs.Laws.{Whole, not-cut, then-zero, gives-zero, not-true}
+use Rattle.record.specs.Record.{_gives_, byteAt, payloadLength, payload, cut, operandsFit, operands, contentsFault, operationOf, nop, lastJumps, operationFault, Answer, Refused, Reading, accepted, empty, refused, refusedOr, push, operations}
+use Rattle.record.specs.declared.operations.Operation.the-variants.{Fault, Good}
+use Rattle.record.specs.Rows.{judged}
+use Rattle.record.proofs.Laws.{Whole, not-cut, payload-head, then-zero, gives-zero, not-true}
 
 -- ---- a kind's number
 
@@ -184,13 +183,13 @@ contents p e =
       fit = not-true _ (gives-zero _ 3 (d .1));
     }
 
-pub record Good (s : List ℕ) (at n : ℕ) (jumped : Bool) : Type 0 where
+pub record Good-at (s : List ℕ) (at n : ℕ) (jumped : Bool) : Type 0 where
   pub whole : Whole s at (payloadLength s at)
   pub room : n < 32
   pub before : jumped ≡ false
   pub contents : Contents (payload s at)
 
-pub good : (s : List ℕ) (at n : ℕ) (jumped : Bool) → operationFault s at n jumped ≡ 0 → Good s at n jumped
+pub good : (s : List ℕ) (at n : ℕ) (jumped : Bool) → operationFault s at n jumped ≡ 0 → Good-at s at n jumped
 unfolding operationFault
 good s at n jumped e =
     let a = then-zero (cut s at gives 1) _ e in
@@ -225,8 +224,9 @@ pass {f} g place next e z = let y : g ≡ 0 = sym e ∙ z in rw y
 pub last-jumps : (n : ℕ) (ops : List BOp) (o : BOp) → n < length ops → lastJumps (n + 1) (set ops n o) ≡ mayJump (o .fast)
 last-jumps n ops o h = rw (add-one, getD-set-same ops n o nop h)
 
-abbrev pub block-of : Layout → Memory → Addresses → ℕ → List BOp → ℕ → Block
-block-of l m a p ops n = record { layout = l; memory = m; addresses = a; pc0 = p; ops = ops; n = n }
+-- a block with so many operations
+abbrev pub counted : Block → ℕ → Block
+counted b n = record { layout = b .layout; memory = b .memory; addresses = b .addresses; pc0 = b .pc0; ops = b .ops; n = n }
 
 ends : (k : ℕ) (s : List ℕ) (at : ℕ) (b : Block) → length s ≤ at → accepted b ≡ operations k s at b
 unfolding operations
@@ -264,28 +264,51 @@ at-operation s at b m h e =
     ∙ goes-on (32 - b .n) s at b h e
     ∙ ap (λ (j : ℕ). operations j s at b) (sym (fuel (b .n) l))
 
+judged-fault : (f : ℕ) (o : BOp) (number : ℕ) → judged f o ≡ Fault number → (f ≡ number) × (f ≡ 0 → ⊥)
+judged-fault zero o number e = let z : _≡_ {A = ℕ} 0 1 = cc in absurd (omega arith)
+judged-fault (suc f) o number e = (cc, λ z. omega arith)
+
+pub judged-good : (f : ℕ) (o q : BOp) → judged f o ≡ Good q → (f ≡ 0) × (q ≡ o)
+judged-good zero o q e = (refl, cc)
+judged-good (suc f) o q e = let z : _≡_ {A = ℕ} 0 1 = cc in absurd (omega arith)
+
+abbrev pub with-answer : Answer → Block → Reading
+with-answer a b = record { answer = a; block = b }
+
+-- the loop, left at a fault
+pub at-refusal :
+    (s : List ℕ) (at n : ℕ) (b none : Block) (jumped : Bool) (number : ℕ)
+    → at < length s → n ≤ 32 → jumped ≡ lastJumps n (b .ops) → none ≡ empty
+    → judged (operationFault s at n jumped) (operationOf (payload s at)) ≡ Fault number
+    → with-answer (Refused number at) (counted none 0) ≡ operations (33 - n) s at (counted b n)
+at-refusal s at n b none jumped number inside room before e h =
+    let f = judged-fault (operationFault s at n jumped) _ number h in
+    let same = ap (operationFault s at n) before in
+    ap₂ (λ (k : ℕ) (x : Block). with-answer (Refused k at) (counted x 0)) (sym (f .0) ∙ same) e ∙ at-fault s at (counted b n) room inside (λ z. f .1 (same ∙ z))
+
 -- the loop's invariant, one operation on
 pub again :
-    (s : List ℕ) (at n : ℕ) (ops : List BOp) (jumped : Bool) (l : Layout) (m : Memory) (a : Addresses) (p : ℕ) (r : Reading)
-    → at < length s → n ≤ 32 → length ops ≡ 32 → jumped ≡ lastJumps n ops → operations (33 - n) s at (block-of l m a p ops n) ≡ r
-    → operationFault s at n jumped ≡ 0
+    (s : List ℕ) (at n : ℕ) (b : Block) (jumped : Bool) (r : Reading)
+    → at < length s → n ≤ 32 → length (b .ops) ≡ 32 → jumped ≡ lastJumps n (b .ops) → operations (33 - n) s at (counted b n) ≡ r
+    → (o : BOp) → judged (operationFault s at n jumped) (operationOf (payload s at)) ≡ Good o
+    → (k : ℕ) → k ≡ byteAt s (at + 3)
     → (size : ℕ) → size ≡ payloadLength s at
-    → (o : BOp) → o ≡ operationOf (payload s at)
-    → (k : ℕ) → k ≡ byteAt (payload s at) 0
     → (at + 3 + size ≤ length s)
     × (n + 1 ≤ 32)
-    × (length (set ops n o) ≡ 32)
-    × (leb 30 k ≡ lastJumps (n + 1) (set ops n o))
-    × (operations (33 - (n + 1)) s (at + 3 + size) (block-of l m a p (set ops n o) (n + 1)) ≡ r)
-again s at n ops jumped l m a p r inside room full before so-far none size esize o eo k ek =
-    let g : Good s at n jumped = good s at n jumped none in
-    let h : n < length ops = omega (arith, g .room, full) in
-    let none′ : operationFault s at n (lastJumps n ops) ≡ 0 = ap (operationFault s at n) (sym before) ∙ none in (
+    × (length (set (b .ops) n o) ≡ 32)
+    × (leb 30 k ≡ lastJumps (n + 1) (set (b .ops) n o))
+    × (operations (33 - (n + 1)) s (at + 3 + size) (push (counted b n) o) ≡ r)
+again s at n b jumped r inside room full before so-far o eo k ek size esize =
+    let j = judged-good (operationFault s at n jumped) _ o eo in
+    let g : Good-at s at n jumped = good s at n jumped (j .0) in
+    let h : n < length (b .ops) = omega (arith, g .room, full) in
+    let none : operationFault s at n (lastJumps n (b .ops)) ≡ 0 = ap (operationFault s at n) (sym before) ∙ j .0 in
+    let kind : k ≡ byteAt (payload s at) 0 = ek ∙ sym (payload-head s at (g .contents .long)) in (
       rw esize (g .whole .inside),
       omega (arith, g .room),
-      length-set ops n o ∙ full,
-      ap (leb 30) ek ∙ jumps (payload s at) (g .contents .kind) ∙ ap (λ (q : BOp). mayJump (q .fast)) (sym eo) ∙ sym (last-jumps n ops o h),
-      ap₂ (λ (i : ℕ) (q : BOp). operations (33 - (n + 1)) s (at + 3 + i) (block-of l m a p (set ops n q) (n + 1))) esize eo
-          ∙ at-operation s at (block-of l m a p ops n) (g .room) inside none′
+      length-set (b .ops) n o ∙ full,
+      ap (leb 30) kind ∙ jumps (payload s at) (g .contents .kind) ∙ ap (λ (q : BOp). mayJump (q .fast)) (sym (j .1)) ∙ sym (last-jumps n (b .ops) o h),
+      ap₂ (λ (i : ℕ) (q : BOp). operations (33 - (n + 1)) s (at + 3 + i) (push (counted b n) q)) esize (j .1)
+          ∙ at-operation s at (counted b n) (g .room) inside none
           ∙ so-far,
     )

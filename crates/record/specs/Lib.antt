@@ -1,3 +1,3 @@
 pub mod Kinds
-pub mod Table
+pub mod Rows
 pub mod Record

@@ -2,10 +2,8 @@
 ghost use mathlib.Core.Path.{_≡_};
 ghost use Prim.Native.Nat.{_<_};
 ghost use lib.ListN.{length};
-ghost use Rattle.record.specs.Kinds.{fits as fitsIn, opOf, rmwOpOf, condOf, baseOf, widthOf, rkOf, partOf, choiceOf, unKindOf, divKindOf, kindAt, fastOf};
-ghost use Rattle.record.specs.Table.{classOf, packed};
-ghost use Rattle.record.specs.Record.{operandsFit};
-use crate::numbers::get32;
+ghost use Rattle.record.specs.Kinds.{width, fits as fitsIn, opOf, rmwOpOf, condOf, baseOf, widthOf, rkOf, partOf, choiceOf, unKindOf, divKindOf};
+ghost use Rattle.record.specs.Rows.{rowOf};
 use crate::numbers::low;
 use block::Base;
 use block::Choice;
@@ -19,95 +17,25 @@ use block::RmwOp;
 use block::UnKind;
 use block::Width;
 
-// The operand classes of each kind, a hexadecimal digit each, the first operand's lowest: 1 a register, 2 a register or 16 for sp,
-// 3 any 32 bits, 4 a byte, 5 a flag, 6 a width, 7 an Op, 8 an RmwOp, 9 a Cond. 0 is the end.
-const OPERANDS: [u32; 40] = [
-    0,
-    0x31,
-    0x11,
-    0x311,
-    0x411,
-    0x411,
-    0x7111,
-    0x7311,
-    0x711,
-    0x731,
-    0x34711,
-    0x5411,
-    0x4111,
-    0x411,
-    0x4111,
-    0x1111,
-    0x311,
-    0x54411,
-    0x4411,
-    0x3,
-    0x31,
-    0x56321,
-    0x6321,
-    0x564111,
-    0x64111,
-    0x35611,
-    0x3611,
-    0x33861,
-    0,
-    0,
-    0x3931,
-    0x3911,
-    0x3391,
-    0x33541,
-    0x3,
-    0x3,
-    0,
-    0x1,
-    0x1,
-    0,
-];
+// The largest number of an operand: of a register, a register or 16 for sp, a byte, a flag, an Op, an RmwOp, a Cond.
+const REG: u32 = 15;
 
-// Whether an operand is in the range of its class.
-fn fits(class: u32, x: u32) -> bool
-    ensures { λ r. ⌜ r ≡ fitsIn (classOf class) x ⌝ }
-{
-    match class {
-        0 => true,
-        1 => x <= 15,
-        2 => x <= 16,
-        3 => true,
-        4 => x <= 255,
-        5 => x <= 1,
-        6 => is_width(x),
-        7 => x <= 10,
-        8 => x <= 5,
-        _ => x <= 9,
-    }
-}
+const BASE: u32 = 16;
+
+const BYTE: u32 = 255;
+
+const FLAG: u32 = 1;
+
+const OP: u32 = 10;
+
+const RMW_OP: u32 = 5;
+
+const COND: u32 = 9;
 
 fn is_width(x: u32) -> bool
-    ensures { λ r. ⌜ r ≡ fitsIn (classOf 6) x ⌝ }
+    ensures { λ r. ⌜ r ≡ fitsIn width x ⌝ }
 {
     (x == 1) | ((x == 2) | (x == 4))
-}
-
-// How many operands a kind has, and whether those of a payload are in range.
-pub struct Operands {
-    pub count: usize,
-    pub fit: bool,
-}
-
-pub fn operands_of(kind: u8, p: &[u8]) -> Operands
-    requires { ⌜ kind < 40 ⌝ }
-    ensures { λ r. ⌜ (r .count ≡ length (kindAt kind .operands)) × (r .fit ≡ operandsFit (kindAt kind .operands) (now (p .entry)) 0) ⌝ }
-{
-    let mut classes = OPERANDS[kind as usize];
-    let mut i: usize = 0;
-    let mut fit = true;
-    while classes != 0 {
-        let x = get32(p, 3 + 4 * i);
-        fit = fit & fits(classes % 16, x);
-        classes = classes / 16;
-        i += 1;
-    }
-    Operands { count: i, fit }
 }
 
 fn op_of(x: u32) -> Op
@@ -234,192 +162,366 @@ fn div_kind_of(x: u32) -> DivKind
     }
 }
 
-// The operation of a kind with these operands.
-pub fn fast_of(kind: u8, x: [u32; 6]) -> Fast
+// What a kind makes of its operands: how many it has, whether each is in its range, and the operation.
+pub struct Decoded {
+    pub count: usize,
+    pub fit: bool,
+    pub fast: Fast,
+}
+
+// A row for each kind. Behind the operands that it has, the others do not matter.
+pub fn decode(kind: u8, x: [u32; 6]) -> Decoded
     requires { ⌜ kind < 40 ⌝ }
-    ensures { λ r. ⌜ r ≡ fastOf kind x ⌝ }
+    ensures { λ r. ⌜ r ≡ rowOf kind x ⌝ }
 {
-    let r0 = (x[0] % 256) as u8;
-    let r1 = (x[1] % 256) as u8;
-    let r2 = (x[2] % 256) as u8;
-    let r3 = (x[3] % 256) as u8;
+    let x0 = x[0];
+    let x1 = x[1];
+    let x2 = x[2];
+    let x3 = x[3];
+    let x4 = x[4];
+    let x5 = x[5];
+    let r0 = (x0 % 256) as u8;
+    let r1 = (x1 % 256) as u8;
+    let r2 = (x2 % 256) as u8;
+    let r3 = (x3 % 256) as u8;
     match kind {
-        0 => Fast::Nop,
-        1 => Fast::MovI { d: r0, v: x[1] },
-        2 => Fast::Mov { d: r0, s: r1 },
-        3 => Fast::AddRI {
-            d: r0,
-            s: r1,
-            v: x[2],
+        0 => Decoded {
+            count: 0,
+            fit: true,
+            fast: Fast::Nop,
         },
-        4 => Fast::ShlI {
-            d: r0,
-            s: r1,
-            n: r2,
+        1 => Decoded {
+            count: 2,
+            fit: x0 <= REG,
+            fast: Fast::MovI { d: r0, v: x1 },
         },
-        5 => Fast::SarI {
-            d: r0,
-            s: r1,
-            n: r2,
+        2 => Decoded {
+            count: 2,
+            fit: (x0 <= REG) & (x1 <= REG),
+            fast: Fast::Mov { d: r0, s: r1 },
         },
-        6 => Fast::Alu3 {
-            d: r0,
-            a: r1,
-            b: r2,
-            op: op_of(x[3]),
+        3 => Decoded {
+            count: 3,
+            fit: (x0 <= REG) & (x1 <= REG),
+            fast: Fast::AddRI {
+                d: r0,
+                s: r1,
+                v: x2,
+            },
         },
-        7 => Fast::Alu3I {
-            d: r0,
-            a: r1,
-            v: x[2],
-            op: op_of(x[3]),
+        4 => Decoded {
+            count: 3,
+            fit: (x0 <= REG) & ((x1 <= REG) & (x2 <= BYTE)),
+            fast: Fast::ShlI {
+                d: r0,
+                s: r1,
+                n: r2,
+            },
         },
-        8 => Fast::Alu2 {
-            d: r0,
-            b: r1,
-            op: op_of(x[2]),
+        5 => Decoded {
+            count: 3,
+            fit: (x0 <= REG) & ((x1 <= REG) & (x2 <= BYTE)),
+            fast: Fast::SarI {
+                d: r0,
+                s: r1,
+                n: r2,
+            },
         },
-        9 => Fast::Alu2I {
-            d: r0,
-            v: x[1],
-            op: op_of(x[2]),
+        6 => Decoded {
+            count: 4,
+            fit: (x0 <= REG) & ((x1 <= REG) & ((x2 <= REG) & (x3 <= OP))),
+            fast: Fast::Alu3 {
+                d: r0,
+                a: r1,
+                b: r2,
+                op: op_of(x3),
+            },
         },
-        10 => Fast::A4 {
-            d: r0,
-            s: r1,
-            op: op_of(x[2]),
-            rk: rk_of(x[3]),
-            rv: x[4],
+        7 => Decoded {
+            count: 4,
+            fit: (x0 <= REG) & ((x1 <= REG) & (x3 <= OP)),
+            fast: Fast::Alu3I {
+                d: r0,
+                a: r1,
+                v: x2,
+                op: op_of(x3),
+            },
         },
-        11 => Fast::Ext {
-            d: r0,
-            s: r1,
-            part: part_of(x[2]),
-            signed: x[3] != 0,
+        8 => Decoded {
+            count: 3,
+            fit: (x0 <= REG) & ((x1 <= REG) & (x2 <= OP)),
+            fast: Fast::Alu2 {
+                d: r0,
+                b: r1,
+                op: op_of(x2),
+            },
         },
-        12 => Fast::MinMax {
-            d: r0,
-            a: r1,
-            b: r2,
-            kind: choice_of(x[3]),
+        9 => Decoded {
+            count: 3,
+            fit: (x0 <= REG) & (x2 <= OP),
+            fast: Fast::Alu2I {
+                d: r0,
+                v: x1,
+                op: op_of(x2),
+            },
         },
-        13 => Fast::Un {
-            d: r0,
-            s: r1,
-            k: un_kind_of(x[2]),
+        10 => Decoded {
+            count: 5,
+            fit: (x0 <= REG) & ((x1 <= REG) & ((x2 <= OP) & (x3 <= BYTE))),
+            fast: Fast::A4 {
+                d: r0,
+                s: r1,
+                op: op_of(x2),
+                rk: rk_of(x3),
+                rv: x4,
+            },
         },
-        14 => Fast::Div {
-            d: r0,
-            a: r1,
-            b: r2,
-            k: div_kind_of(x[3]),
+        11 => Decoded {
+            count: 4,
+            fit: (x0 <= REG) & ((x1 <= REG) & ((x2 <= BYTE) & (x3 <= FLAG))),
+            fast: Fast::Ext {
+                d: r0,
+                s: r1,
+                part: part_of(x2),
+                signed: x3 != 0,
+            },
         },
-        15 => Fast::Mov2 {
-            dh: r0,
-            dl: r1,
-            sh: r2,
-            sl: r3,
+        12 => Decoded {
+            count: 4,
+            fit: (x0 <= REG) & ((x1 <= REG) & ((x2 <= REG) & (x3 <= BYTE))),
+            fast: Fast::MinMax {
+                d: r0,
+                a: r1,
+                b: r2,
+                kind: choice_of(x3),
+            },
         },
-        16 => Fast::Mov2I {
-            dh: r0,
-            dl: r1,
-            v: x[2],
+        13 => Decoded {
+            count: 3,
+            fit: (x0 <= REG) & ((x1 <= REG) & (x2 <= BYTE)),
+            fast: Fast::Un {
+                d: r0,
+                s: r1,
+                k: un_kind_of(x2),
+            },
         },
-        17 => Fast::BitExt {
-            d: r0,
-            s: r1,
-            p: r2,
-            l: r3,
-            signed: x[4] != 0,
+        14 => Decoded {
+            count: 4,
+            fit: (x0 <= REG) & ((x1 <= REG) & ((x2 <= REG) & (x3 <= BYTE))),
+            fast: Fast::Div {
+                d: r0,
+                a: r1,
+                b: r2,
+                k: div_kind_of(x3),
+            },
         },
-        18 => Fast::BitIns {
-            d: r0,
-            s: r1,
-            p: r2,
-            l: r3,
+        15 => Decoded {
+            count: 4,
+            fit: (x0 <= REG) & ((x1 <= REG) & ((x2 <= REG) & (x3 <= REG))),
+            fast: Fast::Mov2 {
+                dh: r0,
+                dl: r1,
+                sh: r2,
+                sl: r3,
+            },
         },
-        19 => Fast::SpAdd { v: x[0] },
-        20 => Fast::RFromSp { d: r0, v: x[1] },
-        21 => Fast::Ld {
-            d: r0,
-            b: base_of(x[1]),
-            off: x[2],
-            w: width_of(x[3]),
-            signed: x[4] != 0,
+        16 => Decoded {
+            count: 3,
+            fit: (x0 <= REG) & (x1 <= REG),
+            fast: Fast::Mov2I {
+                dh: r0,
+                dl: r1,
+                v: x2,
+            },
         },
-        22 => Fast::St {
-            s: r0,
-            b: base_of(x[1]),
-            off: x[2],
-            w: width_of(x[3]),
+        17 => Decoded {
+            count: 5,
+            fit: (x0 <= REG) & ((x1 <= REG) & ((x2 <= BYTE) & ((x3 <= BYTE) & (x4 <= FLAG)))),
+            fast: Fast::BitExt {
+                d: r0,
+                s: r1,
+                p: r2,
+                l: r3,
+                signed: x4 != 0,
+            },
         },
-        23 => Fast::LdIdx {
-            d: r0,
-            b: r1,
-            i: r2,
-            sh: r3,
-            w: width_of(x[4]),
-            signed: x[5] != 0,
+        18 => Decoded {
+            count: 4,
+            fit: (x0 <= REG) & ((x1 <= REG) & ((x2 <= BYTE) & (x3 <= BYTE))),
+            fast: Fast::BitIns {
+                d: r0,
+                s: r1,
+                p: r2,
+                l: r3,
+            },
         },
-        24 => Fast::StIdx {
-            s: r0,
-            b: r1,
-            i: r2,
-            sh: r3,
-            w: width_of(x[4]),
+        19 => Decoded {
+            count: 1,
+            fit: true,
+            fast: Fast::SpAdd { v: x0 },
         },
-        25 => Fast::LdPost {
-            d: r0,
-            b: r1,
-            w: width_of(x[2]),
-            signed: x[3] != 0,
-            inc: x[4],
+        20 => Decoded {
+            count: 2,
+            fit: x0 <= REG,
+            fast: Fast::RFromSp { d: r0, v: x1 },
         },
-        26 => Fast::StPost {
-            s: r0,
-            b: r1,
-            w: width_of(x[2]),
-            inc: x[3],
+        21 => Decoded {
+            count: 5,
+            fit: (x0 <= REG) & ((x1 <= BASE) & (is_width(x3) & (x4 <= FLAG))),
+            fast: Fast::Ld {
+                d: r0,
+                b: base_of(x1),
+                off: x2,
+                w: width_of(x3),
+                signed: x4 != 0,
+            },
         },
-        27 => Fast::Rmw {
-            b: r0,
-            w: width_of(x[1]),
-            op: rmw_op_of(x[2]),
-            off: x[3],
-            v: x[4],
+        22 => Decoded {
+            count: 4,
+            fit: (x0 <= REG) & ((x1 <= BASE) & is_width(x3)),
+            fast: Fast::St {
+                s: r0,
+                b: base_of(x1),
+                off: x2,
+                w: width_of(x3),
+            },
         },
-        28 => Fast::PushRet,
-        29 => Fast::PopRets,
-        30 => Fast::BrI {
-            a: r0,
-            v: x[1],
-            cond: cond_of(x[2]),
-            target: x[3],
+        23 => Decoded {
+            count: 6,
+            fit: (x0 <= REG)
+                & ((x1 <= REG) & ((x2 <= REG) & ((x3 <= BYTE) & (is_width(x4) & (x5 <= FLAG))))),
+            fast: Fast::LdIdx {
+                d: r0,
+                b: r1,
+                i: r2,
+                sh: r3,
+                w: width_of(x4),
+                signed: x5 != 0,
+            },
         },
-        31 => Fast::BrR {
-            a: r0,
-            b: r1,
-            cond: cond_of(x[2]),
-            target: x[3],
+        24 => Decoded {
+            count: 5,
+            fit: (x0 <= REG) & ((x1 <= REG) & ((x2 <= REG) & ((x3 <= BYTE) & is_width(x4)))),
+            fast: Fast::StIdx {
+                s: r0,
+                b: r1,
+                i: r2,
+                sh: r3,
+                w: width_of(x4),
+            },
         },
-        32 => Fast::DecBr {
-            r: r0,
-            cond: cond_of(x[1]),
-            v: x[2],
-            target: x[3],
+        25 => Decoded {
+            count: 5,
+            fit: (x0 <= REG) & ((x1 <= REG) & (is_width(x2) & (x3 <= FLAG))),
+            fast: Fast::LdPost {
+                d: r0,
+                b: r1,
+                w: width_of(x2),
+                signed: x3 != 0,
+                inc: x4,
+            },
         },
-        33 => Fast::BitBr {
-            r: r0,
-            mk: rk_of(x[1]),
-            ne: x[2] != 0,
-            mv: x[3],
-            target: x[4],
+        26 => Decoded {
+            count: 4,
+            fit: (x0 <= REG) & ((x1 <= REG) & is_width(x2)),
+            fast: Fast::StPost {
+                s: r0,
+                b: r1,
+                w: width_of(x2),
+                inc: x3,
+            },
         },
-        34 => Fast::Goto { target: x[0] },
-        35 => Fast::Call { target: x[0] },
-        36 => Fast::Rts,
-        37 => Fast::GotoR { r: r0 },
-        38 => Fast::CallR { r: r0 },
-        _ => Fast::PopRet,
+        27 => Decoded {
+            count: 5,
+            fit: (x0 <= REG) & (is_width(x1) & (x2 <= RMW_OP)),
+            fast: Fast::Rmw {
+                b: r0,
+                w: width_of(x1),
+                op: rmw_op_of(x2),
+                off: x3,
+                v: x4,
+            },
+        },
+        28 => Decoded {
+            count: 0,
+            fit: true,
+            fast: Fast::PushRet,
+        },
+        29 => Decoded {
+            count: 0,
+            fit: true,
+            fast: Fast::PopRets,
+        },
+        30 => Decoded {
+            count: 4,
+            fit: (x0 <= REG) & (x2 <= COND),
+            fast: Fast::BrI {
+                a: r0,
+                v: x1,
+                cond: cond_of(x2),
+                target: x3,
+            },
+        },
+        31 => Decoded {
+            count: 4,
+            fit: (x0 <= REG) & ((x1 <= REG) & (x2 <= COND)),
+            fast: Fast::BrR {
+                a: r0,
+                b: r1,
+                cond: cond_of(x2),
+                target: x3,
+            },
+        },
+        32 => Decoded {
+            count: 4,
+            fit: (x0 <= REG) & (x1 <= COND),
+            fast: Fast::DecBr {
+                r: r0,
+                cond: cond_of(x1),
+                v: x2,
+                target: x3,
+            },
+        },
+        33 => Decoded {
+            count: 5,
+            fit: (x0 <= REG) & ((x1 <= BYTE) & (x2 <= FLAG)),
+            fast: Fast::BitBr {
+                r: r0,
+                mk: rk_of(x1),
+                ne: x2 != 0,
+                mv: x3,
+                target: x4,
+            },
+        },
+        34 => Decoded {
+            count: 1,
+            fit: true,
+            fast: Fast::Goto { target: x0 },
+        },
+        35 => Decoded {
+            count: 1,
+            fit: true,
+            fast: Fast::Call { target: x0 },
+        },
+        36 => Decoded {
+            count: 0,
+            fit: true,
+            fast: Fast::Rts,
+        },
+        37 => Decoded {
+            count: 1,
+            fit: x0 <= REG,
+            fast: Fast::GotoR { r: r0 },
+        },
+        38 => Decoded {
+            count: 1,
+            fit: x0 <= REG,
+            fast: Fast::CallR { r: r0 },
+        },
+        _ => Decoded {
+            count: 0,
+            fit: true,
+            fast: Fast::PopRet,
+        },
     }
 }

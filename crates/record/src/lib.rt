@@ -20,8 +20,8 @@ use crate::fields::start_field;
 use crate::numbers::byte;
 use crate::numbers::get16;
 use crate::numbers::get32;
-use crate::operations::operation_fault;
-use crate::operations::operation_of;
+use crate::operations::Operation;
+use crate::operations::read_operation;
 use block::Addresses;
 use block::BOp;
 use block::Block;
@@ -107,38 +107,30 @@ fn read_operations(s: &[u8], b: Block) -> Reading
     requires { ⌜ (77 ≤ length (now s)) × (b .n ≡ 0) × (length (b .ops) ≡ 32) ⌝ }
     ensures { λ r. ⌜ r ≡ operationsOf 33 (now (s .entry)) 77 b ⌝ }
 {
-    let layout = b.layout;
-    let memory = b.memory;
-    let addresses = b.addresses;
-    let pc0 = b.pc0;
-    let mut ops = b.ops;
-    let mut n: usize = 0;
+    let mut answer = Answer::Accepted;
+    let mut block = b;
+    let mut n: u32 = 0;
     let mut jumped = false;
     let mut at: usize = 77;
     while at < s.len() {
-        let fault = operation_fault(s, at, n, jumped);
-        if fault != 0 {
-            return refused(fault, at);
+        let o = read_operation(s, at, n, jumped);
+        match o {
+            Operation::Fault(number) => {
+                answer = Answer::Refused(number, at);
+                block = no_block();
+                n = 0;
+                break;
+            }
+            Operation::Good(op) => {
+                block.ops[n as usize] = op;
+            }
         }
-        let from = at + 3;
-        let end = from + get16(s, at + 1) as usize;
-        let payload = &s[from..end];
-        ops[n] = operation_of(payload);
-        jumped = 30 <= byte(payload, 0);
+        jumped = 30 <= byte(s, at + 3);
         n += 1;
-        at = end;
+        at = at + 3 + get16(s, at + 1) as usize;
     }
-    Reading {
-        answer: Answer::Accepted,
-        block: Block {
-            layout,
-            memory,
-            addresses,
-            pc0,
-            ops,
-            n: n as u32,
-        },
-    }
+    block.n = n;
+    Reading { answer, block }
 }
 
 // The whole reader: any bytes, of any length.

@@ -1,11 +1,14 @@
--- `operation_fault` meets its contract: the tests in order; the part lent is the payload.
+-- `read_operation` meets its contract: the tests in order; the part lent is the payload.
 use borrow.Author.Needs.{needs}
-use Rattle.record.proofs.operations.operation_fault.Statement.{statement}
-use Rattle.record.proofs.operations.operation_fault.Tie as tie
+use Rattle.record.proofs.operations.read_operation.Statement.{statement}
+use Rattle.record.proofs.operations.read_operation.Tie as tie
 use mathlib.Core.Path.{sym, ap, _∙_}
 use native.Mathlib.Omega.{arith}
 use borrow.Author.Tests.{le-leb, lt-leb, eq-eqb, ne-eqb}
-use Rattle.record.specs.Record.{cut, contentsFault, operationFault}
+use Prim.Native.Nat.{ℕ}
+use mathlib.Core.List.{List}
+use Rattle.record.specs.Record.{contentsFault, operationOf, operationFault}
+use Rattle.record.specs.Rows.{judged}
 use Rattle.record.proofs.Laws.{not-cut, payload-range}
 
 cut-requires : tie.Need-cut-requires
@@ -57,19 +60,19 @@ cast-end c = search needs
 add-end : tie.Need-add-end
 add-end c = search needs
 
-sub-contents-fault : tie.Need-sub-contents-fault
-sub-contents-fault c = search needs
+sub-contents : tie.Need-sub-contents
+sub-contents c = search needs
 
-part-contents-fault-start : tie.Need-part-contents-fault-start
-part-contents-fault-start c = search needs
+part-contents-start : tie.Need-part-contents-start
+part-contents-start c = search needs
 
-part-contents-fault-end : tie.Need-part-contents-fault-end
-part-contents-fault-end c =
+part-contents-end : tie.Need-part-contents-end
+part-contents-end c =
     let e = sym (c .before .before .before .before .before .before .cut .ensures) ∙ c .before .before .before .before .before .if1 .left in
     omega (arith, not-cut (c .before .before .before .before .before .before .before .before .args .s .now) (c .before .before .before .before .before .before .before .before .args .at) e .inside, c .get16 .ensures .0)
 
-contents-fault-requires : tie.Need-contents-fault-requires
-contents-fault-requires c κs = search needs
+contents-requires : tie.Need-contents-requires
+contents-requires c κs = search needs
 
 returns-5 : tie.Need-returns-5
 unfolding operationFault
@@ -84,10 +87,10 @@ returns-5 c =
       lt-leb _ _ (c .before .before .before .before .if3 .left),
       c .before .before .before .if4 .left,
     )
-    (c .contents-fault .ensures ∙ ap contentsFault (payload-range (c .before .before .before .before .before .before .before .before .before .before .args .s .now) (c .before .before .before .before .before .before .before .before .before .before .args .at) _ (c .before .before .get16 .ensures .0)))
+    (c .contents .ensures ∙ ap (λ (q : List ℕ). judged (contentsFault q) (operationOf q)) (payload-range (c .before .before .before .before .before .before .before .before .before .before .args .s .now) (c .before .before .before .before .before .before .before .before .before .before .args .at) _ (c .before .before .get16 .ensures .0)))
 
-pub operation-fault-spec : {M : Type 1} → statement M
-operation-fault-spec =
+pub read-operation-spec : {M : Type 1} → statement M
+read-operation-spec =
     tie.close
     (tie.spec
     cut-requires
@@ -101,8 +104,8 @@ operation-fault-spec =
     get16-requires
     cast-end
     add-end
-    sub-contents-fault
-    part-contents-fault-start
-    part-contents-fault-end
-    contents-fault-requires
+    sub-contents
+    part-contents-start
+    part-contents-end
+    contents-requires
     returns-5)
