@@ -16,7 +16,7 @@ UNFOLDED = {
     "lowering.specs.Compile": "blockWords blockLines blockCode sites starts",
     "lowering.specs.Fragments": "addImm brkFirst even loads tryRegion extended oddTest mapTest stores call exitImm chain ind hold checkBrk "
                                 "fork limit load store stepCode stepCache stepsCode opening closing",
-    "lowering.specs.Cache": "position leastFrom oldest chosen spill slotFor seated ldReg stReg stored flushFrom flush reloadFrom reload",
+    "lowering.specs.Cache": "position latest oldest chosen spill slotFor seated ldReg stReg stored flushFrom flush reloadFrom reload",
     "lowering.specs.Instrs": "mov32",
     "lowering.specs.Steps": "lowered opSteps opsSteps blockSteps",
     "code.specs.Items": "index add halves padOf baseOf",

@@ -6,3 +6,4 @@ pub mod Count
 pub mod Pool
 pub mod Whole
 pub mod Sites
+pub mod Recency

@@ -1,3 +1,4 @@
 pub mod Search
 pub mod Cases
 pub mod Pool
+pub mod Order

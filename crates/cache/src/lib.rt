@@ -2,7 +2,8 @@
 ghost use mathlib.Core.Path.{_≡_};
 ghost use Prim.Native.Nat.{_/_, _<_};
 ghost use Rattle.arm.specs.declared.Instr.the-variants.{MemoryImm};
-ghost use Rattle.lowering.specs.Cache.{host as hostOf, offReg, oldest as oldestOf, touch as touched, assign as assigned, mark as marked};
+ghost use Rattle.lowering.specs.Cache.{host as hostOf, offReg, oldest as oldestOf};
+ghost use Rattle.lowering.specs.Cache.{latest as latestOf, touch as touched, assign as assigned, mark as marked};
 ghost use Rattle.lowering.specs.Instrs.{CPU};
 ghost use Rattle.words.specs.Answers.{answer, wordOf};
 ghost use Rattle.cache.specs.Lookup.{lookup, Took};
@@ -71,19 +72,28 @@ pub fn slot(rc: RegCache, r: u8) -> Found
 pub fn oldest(rc: RegCache) -> usize
     ensures { λ r. ⌜ (r ≡ oldestOf rc) × (r < 8) ⌝ }
 {
-    let used = rc.used;
-    let mut best: usize = 0;
-    let mut least: u64 = 4294967296;
-    let mut i: usize = 0;
-    while i < 8 {
-        let u = used[i] as u64;
-        if u < least {
-            best = i;
-            least = u;
+    let first = rc.order[0];
+    (first % 8) as usize
+}
+
+// Slot i behind the others, which stay in their order.
+fn latest(order: [u8; 8], i: u8) -> [u8; 8]
+    ensures { λ r. ⌜ r ≡ latestOf i order ⌝ }
+{
+    let mut q = order;
+    let mut met = false;
+    let mut k: usize = 0;
+    while k < 7 {
+        met = met | (order[k] == i);
+        if met {
+            q[k] = order[k + 1];
         }
-        i += 1;
+        k += 1;
     }
-    best
+    if met {
+        q[7] = i;
+    }
+    q
 }
 
 // One use more, of slot i.
@@ -91,10 +101,10 @@ pub fn touch(rc: RegCache, i: usize) -> RegCache
     requires { ⌜ i < 8 ⌝ }
     ensures { λ q. ⌜ q ≡ touched i rc ⌝ }
 {
+    let before = rc.order;
+    let order = latest(before, i as u8);
     let mut q = rc;
-    let now = std::num::wrapping_add_u32(rc.clock, 1);
-    q.clock = now;
-    q.used[i] = now;
+    q.order = order;
     q
 }
 
@@ -103,12 +113,9 @@ pub fn assign(rc: RegCache, i: usize, r: u8) -> RegCache
     requires { ⌜ i < 8 ⌝ }
     ensures { λ q. ⌜ q ≡ assigned i r rc ⌝ }
 {
-    let mut q = rc;
-    let now = std::num::wrapping_add_u32(rc.clock, 1);
-    q.clock = now;
+    let mut q = touch(rc, i);
     q.guest[i] = r;
     q.dirty[i] = false;
-    q.used[i] = now;
     q
 }
 

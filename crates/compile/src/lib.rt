@@ -31,8 +31,7 @@ fn empty() -> RegCache
     RegCache {
         guest: [16; 8],
         dirty: [false; 8],
-        used: [0; 8],
-        clock: 0,
+        order: [0, 1, 2, 3, 4, 5, 6, 7],
     }
 }
 

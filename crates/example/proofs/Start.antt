@@ -17,7 +17,7 @@ use Rattle.block.specs.declared.Block.{Block}
 use Rattle.code.specs.Items.{index, add, halves, padOf, baseOf}
 use Rattle.code.specs.Tree.{words, lines, instrs, wholeLines, poolIn, findIn, linesWords}
 use Rattle.lowering.specs.Instrs.{mov32}
-use Rattle.lowering.specs.Cache.{position, leastFrom, oldest, chosen, spill, slotFor, seated, ldReg, stReg, stored, flushFrom, flush, reloadFrom, reload}
+use Rattle.lowering.specs.Cache.{position, latest, oldest, chosen, spill, slotFor, seated, ldReg, stReg, stored, flushFrom, flush, reloadFrom, reload}
 use Rattle.lowering.specs.Steps.{lowered, opSteps, opsSteps, blockSteps}
 use Rattle.lowering.specs.Fragments.{addImm, brkFirst, even, loads, tryRegion, extended, oddTest, mapTest, stores, call, exitImm, chain, ind, hold, checkBrk, fork, limit, load, store, stepCode, stepCache, stepsCode, opening, closing}
 use Rattle.lowering.specs.Compile.{blockWords, blockLines, blockCode, sites, starts}
@@ -81,7 +81,7 @@ listing =
     ∷ 0xa8c67bfd ∷ 0xd65f03c0 ∷ 0x00900000 ∷ 0x00000000 ∷ 0x00a00000 ∷ 0x00000000 ∷ []
 
 pub listing-is : blockWords block ≡ listing
-unfolding blockWords blockLines blockCode sites starts addImm brkFirst even loads tryRegion extended oddTest mapTest stores call exitImm chain ind hold checkBrk fork limit load store stepCode stepCache stepsCode opening closing position leastFrom oldest chosen spill slotFor seated ldReg stReg stored flushFrom flush reloadFrom reload mov32 lowered opSteps opsSteps blockSteps index add halves padOf baseOf words lines instrs wholeLines poolIn findIn linesWords listing
+unfolding blockWords blockLines blockCode sites starts addImm brkFirst even loads tryRegion extended oddTest mapTest stores call exitImm chain ind hold checkBrk fork limit load store stepCode stepCache stepsCode opening closing position latest oldest chosen spill slotFor seated ldReg stReg stored flushFrom flush reloadFrom reload mov32 lowered opSteps opsSteps blockSteps index add halves padOf baseOf words lines instrs wholeLines poolIn findIn linesWords listing
 listing-is = refl
 
 -- ---- the outside: an answer, RAM with another first byte, and any other registers and flags

@@ -134,7 +134,6 @@ module _ {b : Block} {h : Helpers} {entry : Entry} {limit : ℕ} {c : Card} {s s
     slots = record {
       guests = refl;
       dirties = refl;
-      uses = refl;
       guest-le = λ i. test (ltb i 8) (λ e. omega (arith, free i (ltb-true i 8 e))) (λ e. omega (arith, past i (ltb-false i 8 e)));
       clean = λ i q. test (ltb i 8) (λ e. below8 (λ j. dirtyOf emptyCache j ≡ false) refl refl refl refl refl refl refl refl i (ltb-true i 8 e))
           (λ e. List·getD-eq-default (emptyCache .dirty) false {n = i} (ltb-false i 8 e));

@@ -17,7 +17,7 @@ use Rattle.block.specs.declared.Block.{Block}
 use Rattle.code.specs.Items.{index, add, halves, padOf, baseOf}
 use Rattle.code.specs.Tree.{words, lines, instrs, wholeLines, poolIn, findIn, linesWords}
 use Rattle.lowering.specs.Instrs.{mov32}
-use Rattle.lowering.specs.Cache.{position, leastFrom, oldest, chosen, spill, slotFor, seated, ldReg, stReg, stored, flushFrom, flush, reloadFrom, reload}
+use Rattle.lowering.specs.Cache.{position, latest, oldest, chosen, spill, slotFor, seated, ldReg, stReg, stored, flushFrom, flush, reloadFrom, reload}
 use Rattle.lowering.specs.Steps.{lowered, opSteps, opsSteps, blockSteps}
 use Rattle.lowering.specs.Fragments.{addImm, brkFirst, even, loads, tryRegion, extended, oddTest, mapTest, stores, call, exitImm, chain, ind, hold, checkBrk, fork, limit, load, store, stepCode, stepCache, stepsCode, opening, closing}
 use Rattle.lowering.specs.Compile.{blockWords, blockLines, blockCode, sites, starts}
@@ -77,11 +77,11 @@ pub first-words : blockWords first ≡
     ∷ 0x5800028b ∷ 0x8b0a116b ∷ 0xb940016d ∷ 0x6b0c01bf ∷ 0x54000061 ∷ 0xf9400569 ∷ 0xd61f0120 ∷ 0xb9004a6c
     ∷ 0x2a1a03e0 ∷ 0x14000001 ∷ 0xa94573fb ∷ 0xa9446bf9 ∷ 0xa94363f7 ∷ 0xa9425bf5 ∷ 0xa94153f3 ∷ 0xa8c67bfd
     ∷ 0xd65f03c0 ∷ 0xd503201f ∷ 0x33334444 ∷ 0x11112222 ∷ 0xbbbbcccc ∷ 0x9999aaaa ∷ []
-unfolding blockWords blockLines blockCode sites starts addImm brkFirst even loads tryRegion extended oddTest mapTest stores call exitImm chain ind hold checkBrk fork limit load store stepCode stepCache stepsCode opening closing position leastFrom oldest chosen spill slotFor seated ldReg stReg stored flushFrom flush reloadFrom reload mov32 lowered opSteps opsSteps blockSteps index add halves padOf baseOf words lines instrs wholeLines poolIn findIn linesWords
+unfolding blockWords blockLines blockCode sites starts addImm brkFirst even loads tryRegion extended oddTest mapTest stores call exitImm chain ind hold checkBrk fork limit load store stepCode stepCache stepsCode opening closing position latest oldest chosen spill slotFor seated ldReg stReg stored flushFrom flush reloadFrom reload mov32 lowered opSteps opsSteps blockSteps index add halves padOf baseOf words lines instrs wholeLines poolIn findIn linesWords
 first-words = refl
 
 pub first-sites : sites first ≡ []
-unfolding blockWords blockLines blockCode sites starts addImm brkFirst even loads tryRegion extended oddTest mapTest stores call exitImm chain ind hold checkBrk fork limit load store stepCode stepCache stepsCode opening closing position leastFrom oldest chosen spill slotFor seated ldReg stReg stored flushFrom flush reloadFrom reload mov32 lowered opSteps opsSteps blockSteps index add halves padOf baseOf words lines instrs wholeLines poolIn findIn linesWords
+unfolding blockWords blockLines blockCode sites starts addImm brkFirst even loads tryRegion extended oddTest mapTest stores call exitImm chain ind hold checkBrk fork limit load store stepCode stepCache stepsCode opening closing position latest oldest chosen spill slotFor seated ldReg stReg stored flushFrom flush reloadFrom reload mov32 lowered opSteps opsSteps blockSteps index add halves padOf baseOf words lines instrs wholeLines poolIn findIn linesWords
 first-sites = refl
 
 -- A signed halfword from RAM, flash or the helper, a glued break check, a halfword stored past the code map at an offset of two words, a branch with
@@ -123,9 +123,9 @@ pub second-words : blockWords second ≡
     ∷ 0x1400000d ∷ 0xb9000667 ∷ 0xb9000a68 ∷ 0xb900166e ∷ 0x1100135a ∷ 0x14000001 ∷ 0x52804009 ∷ 0x72a04009
     ∷ 0xb9004a69 ∷ 0x10ffff8a ∷ 0xf900128a ∷ 0x2a1a03e0 ∷ 0x14000001 ∷ 0xa94573fb ∷ 0xa9446bf9 ∷ 0xa94363f7
     ∷ 0xa9425bf5 ∷ 0xa94153f3 ∷ 0xa8c67bfd ∷ 0xd65f03c0 ∷ 0x33334444 ∷ 0x11112222 ∷ 0x77778888 ∷ 0x55556666 ∷ []
-unfolding blockWords blockLines blockCode sites starts addImm brkFirst even loads tryRegion extended oddTest mapTest stores call exitImm chain ind hold checkBrk fork limit load store stepCode stepCache stepsCode opening closing position leastFrom oldest chosen spill slotFor seated ldReg stReg stored flushFrom flush reloadFrom reload mov32 lowered opSteps opsSteps blockSteps index add halves padOf baseOf words lines instrs wholeLines poolIn findIn linesWords
+unfolding blockWords blockLines blockCode sites starts addImm brkFirst even loads tryRegion extended oddTest mapTest stores call exitImm chain ind hold checkBrk fork limit load store stepCode stepCache stepsCode opening closing position latest oldest chosen spill slotFor seated ldReg stReg stored flushFrom flush reloadFrom reload mov32 lowered opSteps opsSteps blockSteps index add halves padOf baseOf words lines instrs wholeLines poolIn findIn linesWords
 second-words = refl
 
 pub second-sites : sites second ≡ record { at = 121; target = 0x0200020e } ∷ record { at = 133; target = 0x02000200 } ∷ []
-unfolding blockWords blockLines blockCode sites starts addImm brkFirst even loads tryRegion extended oddTest mapTest stores call exitImm chain ind hold checkBrk fork limit load store stepCode stepCache stepsCode opening closing position leastFrom oldest chosen spill slotFor seated ldReg stReg stored flushFrom flush reloadFrom reload mov32 lowered opSteps opsSteps blockSteps index add halves padOf baseOf words lines instrs wholeLines poolIn findIn linesWords
+unfolding blockWords blockLines blockCode sites starts addImm brkFirst even loads tryRegion extended oddTest mapTest stores call exitImm chain ind hold checkBrk fork limit load store stepCode stepCache stepsCode opening closing position latest oldest chosen spill slotFor seated ldReg stReg stored flushFrom flush reloadFrom reload mov32 lowered opSteps opsSteps blockSteps index add halves padOf baseOf words lines instrs wholeLines poolIn findIn linesWords
 second-sites = refl

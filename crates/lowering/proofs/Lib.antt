@@ -1,1 +1,5 @@
 pub mod Example
+pub mod Lookups
+pub mod Latest
+pub mod Recency
+pub mod SameWords

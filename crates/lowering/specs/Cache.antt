@@ -1,7 +1,7 @@
 -- The register cache: which of the eight host registers holds a guest register, and the instructions that this costs (RegCache in the Rust).
 use mathlib.Core.Bool.{Bool, true, false, not, _&&_}
 use mathlib.Core.List.{List, [], _∷_, _++_}
-use Prim.Native.Nat.{ℕ, zero, suc, _+_, _*_, _%_, _^_}
+use Prim.Native.Nat.{ℕ, suc, _+_, _*_, _%_}
 use lib.Dec.{eqb, ltb}
 use lib.ListN.{getD, set}
 use Rattle.arm.specs.declared.Instr.{Instr}
@@ -25,8 +25,7 @@ emptyCache =
     record {
       guest = FREE ∷ FREE ∷ FREE ∷ FREE ∷ FREE ∷ FREE ∷ FREE ∷ FREE ∷ [];
       dirty = false ∷ false ∷ false ∷ false ∷ false ∷ false ∷ false ∷ false ∷ [];
-      used = 0 ∷ 0 ∷ 0 ∷ 0 ∷ 0 ∷ 0 ∷ 0 ∷ 0 ∷ [];
-      clock = 0;
+      order = 0 ∷ 1 ∷ 2 ∷ 3 ∷ 4 ∷ 5 ∷ 6 ∷ 7 ∷ [];
     }
 
 abbrev pub offReg : Layout → ℕ → ℕ
@@ -38,14 +37,9 @@ unfoldable pub position : ℕ → List ℕ → ℕ
 position r [] = 0
 position r (g ∷ gs) = pick (eqb g r) 0 (suc (position r gs))
 
--- the first position of the least number: that of `least` is `at`, the list starts at i
-unfoldable pub leastFrom : (i at least : ℕ) → List ℕ → ℕ
-leastFrom i at least [] = at
-leastFrom i at least (u ∷ us) = pick (ltb u least) (leastFrom (suc i) i u us) (leastFrom (suc i) at least us)
-
--- the least recently used
+-- the least recently used is the first of the order; modulo 8, so that it is a slot for any numbers (`Recency.first`: it changes nothing)
 unfoldable pub oldest : RegCache → ℕ
-oldest rc = leastFrom 0 0 (2 ^ 32) (rc .used)
+oldest rc = getD (rc .order) 0 0 % 8
 
 abbrev pub isHeld : RegCache → ℕ → Bool
 isHeld rc r = ltb (position r (rc .guest)) 8
@@ -61,18 +55,19 @@ spill lay rc =
     (pick (getD (rc .dirty) (oldest rc) false) (str (host (oldest rc)) CPU (offReg lay (getD (rc .guest) (oldest rc) 0)) ∷ []) [])
 
 -- ---- a use of guest register r
--- the clock counts as the Rust's u32
-abbrev pub tick : RegCache → ℕ
-tick rc = (rc .clock + 1) % 2 ^ 32
+-- slot i moves to the end, the others stay in their order
+unfoldable pub latest : ℕ → List ℕ → List ℕ
+latest i [] = []
+latest i (x ∷ xs) = pick (eqb x i) (xs ++ (i ∷ [])) (x ∷ latest i xs)
 
 abbrev pub touch : ℕ → RegCache → RegCache
-touch i rc = record { guest = rc .guest; dirty = rc .dirty; used = set (rc .used) i (tick rc); clock = tick rc }
+touch i rc = record { guest = rc .guest; dirty = rc .dirty; order = latest i (rc .order) }
 
 abbrev pub assign : (i r : ℕ) → RegCache → RegCache
-assign i r rc = record { guest = set (rc .guest) i r; dirty = set (rc .dirty) i false; used = set (rc .used) i (tick rc); clock = tick rc }
+assign i r rc = record { guest = set (rc .guest) i r; dirty = set (rc .dirty) i false; order = latest i (rc .order) }
 
 abbrev pub mark : ℕ → RegCache → RegCache
-mark i rc = record { guest = rc .guest; dirty = set (rc .dirty) i true; used = rc .used; clock = rc .clock }
+mark i rc = record { guest = rc .guest; dirty = set (rc .dirty) i true; order = rc .order }
 
 -- the slot that r has or gets, and the cache with r in it
 unfoldable pub slotFor : RegCache → ℕ → ℕ

@@ -4,3 +4,5 @@ pub mod Steps
 pub mod Fragments
 pub mod Compile
 pub mod Given
+pub mod Stamps
+pub mod Recency

@@ -1,5 +1,5 @@
 -- The register cache: which slot a lookup gives, and what the slots and the homes hold of the guest registers.
---     held-slot, free-slot, oldest-lt, chosen-lt, slotFor-lt     lookups
+--     held-slot, free-slot                                       lookups
 --     slots-touch, slots-assign, slots-mark, slots-seated, slots-stored     the eight slots after a use
 --     cached-clean, cached-marks, cached-same, cached-free       other marks, other slots
 --     cached-spill, cached-put                                   a slot is stored; a slot is given to a register
@@ -10,12 +10,11 @@ use mathlib.Core.List.{List, [], _∷_}
 use Prim.Native.Nat.{ℕ, zero, suc, _+_, _%_, _^_, _≤_, _<_}
 use native.Mathlib.Omega.{arith}
 use borrow.Author.Tests.{eqb-true, eqb-false, ltb-true, ltb-false}
-use lib.Dec.{eqb, ltb}
+use lib.Dec.{eqb}
 use lib.ListN.{length, getD, set, length-set}
 use lib.Seq.{getD-set-same, getD-set-other}
 use Rattle.arm.specs.declared.Size.the-variants.{W}
 use Rattle.block.specs.declared.Layout.{Layout}
-use Rattle.code.specs.Items.{pick}
 use Rattle.machine.specs.State.{State, withX, processor}
 use Rattle.machine.specs.Memory.{readLE, writeLE, bytesOf, sizeOf}
 use Rattle.machine.proofs.Bytes.{read-same}
@@ -23,7 +22,8 @@ use Rattle.machine.proofs.Registers.{R-same, R-other}
 use Rattle.machine.proofs.Regions.{bytes-same}
 use Rattle.card.specs.Card.{Card, reg}
 use Rattle.lowering.specs.declared.RegCache.{RegCache}
-use Rattle.lowering.specs.Cache.{host, offReg, FREE, position, leastFrom, oldest, isHeld, chosen, touch, assign, mark}
+use Rattle.lowering.specs.Cache.{host, offReg, position, isHeld, touch, assign, mark}
+use Rattle.lowering.proofs.Lookups.{position-is, position-not}
 use Rattle.relation.specs.Abs.{upd}
 use Rattle.relation.specs.Relation.{Cached, Slots, guestOf}
 use Rattle.registers.proofs.Basics.{test, upd-same, upd-other, cls-lt, host-cls, host-inj}
@@ -31,35 +31,7 @@ use Rattle.registers.proofs.Access.{wrote}
 use Rattle.registers.proofs.Fields.{read-apart, homes-apart}
 
 -- ---- lookups
-position-is : (r : ℕ) (l : List ℕ) (d : ℕ) → position r l < length l → getD l (position r l) d ≡ r
-unfolding position
-position-is r [] d h = absurd (omega arith)
-position-is r (g ∷ gs) d h = by (position-is r gs d) (eqb g r) refl
-  where
-    by : (position r gs < length gs → getD gs (position r gs) d ≡ r) → (b : Bool) → eqb g r ≡ b → getD (g ∷ gs) (pick (eqb g r) 0 (suc (position r gs))) d ≡ r
-    by rec true e = rw e (eqb-true g r e)
-    by rec false e = let k : pick (eqb g r) 0 (suc (position r gs)) < suc (length gs) = h in let k′ : suc (position r gs) < suc (length gs) = rw e at k in rw e (rec (omega arith))
-
-position-not : (r : ℕ) (l : List ℕ) (d : ℕ) → length l ≤ position r l → (j : ℕ) → j < length l → getD l j d ≢ r
-unfolding position
-position-not r [] d h j k = absurd (omega arith)
-position-not r (g ∷ gs) d h j k = by (position-not r gs d) (eqb g r) refl j k
-  where
-    by : (length gs ≤ position r gs → (j : ℕ) → j < length gs → getD gs j d ≢ r) → (b : Bool) → eqb g r ≡ b → (j : ℕ) → j < suc (length gs) → getD (g ∷ gs) j d ≢ r
-    by rec true e j k = let z : suc (length gs) ≤ pick (eqb g r) 0 (suc (position r gs)) = h in let z′ : suc (length gs) ≤ 0 = rw e at z in absurd (omega arith)
-    by rec false e zero k = eqb-false g r e
-    by rec false e (suc j) k = let z : suc (length gs) ≤ pick (eqb g r) 0 (suc (position r gs)) = h in let z′ : suc (length gs) ≤ suc (position r gs) = rw e at z in rec (omega arith) j (omega arith)
-
-least-lt : (i at least : ℕ) (us : List ℕ) (t : ℕ) → at < t → i + length us ≤ t → leastFrom i at least us < t
-unfolding leastFrom
-least-lt i at least [] t h k = h
-least-lt i at least (u ∷ us) t h k = by (least-lt (suc i) i u us t (omega arith) (omega arith)) (least-lt (suc i) at least us t h (omega arith)) (ltb u least)
-  where
-    by : leastFrom (suc i) i u us < t → leastFrom (suc i) at least us < t → (b : Bool) → pick b (leastFrom (suc i) i u us) (leastFrom (suc i) at least us) < t
-    by p q true = p
-    by p q false = q
-
--- a list read past its end, by any default
+-- a list read inside, by any default
 pub getD-default : {A : Type 0} (l : List A) (i : ℕ) (d e : A) → i < length l → getD l i d ≡ getD l i e
 getD-default [] i d e h = absurd (omega arith)
 getD-default (x ∷ xs) zero d e h = refl
@@ -72,23 +44,14 @@ module _ {rc : RegCache} (q : Slots rc) where
   pub free-slot : (r : ℕ) → isHeld rc r ≡ false → (j : ℕ) → j < 8 → guestOf rc j ≢ r
   free-slot r h j l = let z : 8 ≤ position r (rc .guest) = ltb-false (position r (rc .guest)) 8 h in position-not r (rc .guest) 16 (omega (arith, q .guests)) j (omega (arith, q .guests))
 
-  pub oldest-lt : oldest rc < 8
-  unfolding oldest
-  oldest-lt = least-lt 0 0 (2 ^ 32) (rc .used) 8 (omega arith) (omega (arith, q .uses))
-
-  pub chosen-lt : chosen rc < 8
-  unfolding chosen
-  chosen-lt = test (isHeld rc FREE) (λ h. rw h (held-slot FREE h .1)) (λ h. rw h oldest-lt)
-
   -- ---- the slots after a use
   pub slots-touch : (i : ℕ) → Slots (touch i rc)
-  slots-touch i = record { guests = q .guests; dirties = q .dirties; uses = length-set (rc .used) i ((rc .clock + 1) % 2 ^ 32) ∙ q .uses; guest-le = q .guest-le; clean = q .clean }
+  slots-touch i = record { guests = q .guests; dirties = q .dirties; guest-le = q .guest-le; clean = q .clean }
 
   pub slots-assign : (i r : ℕ) → i < 8 → r < 16 → Slots (assign i r rc)
   slots-assign i r l m = record {
     guests = length-set (rc .guest) i r ∙ q .guests;
     dirties = length-set (rc .dirty) i false ∙ q .dirties;
-    uses = length-set (rc .used) i ((rc .clock + 1) % 2 ^ 32) ∙ q .uses;
     guest-le = λ j. test (eqb j i)
         (λ e. let z : getD (set (rc .guest) i r) j 16 ≡ r = ap (λ k. getD (set (rc .guest) i r) k 16) (eqb-true j i e) ∙ getD-set-same (rc .guest) i r 16 (omega (arith, q .guests)) in omega arith)
         (λ e. let z : getD (set (rc .guest) i r) j 16 ≡ getD (rc .guest) j 16 = getD-set-other (rc .guest) i j r 16 (eqb-false j i e) in omega (arith, q .guest-le j));
@@ -102,7 +65,6 @@ module _ {rc : RegCache} (q : Slots rc) where
   slots-mark i l = record {
     guests = q .guests;
     dirties = length-set (rc .dirty) i true ∙ q .dirties;
-    uses = q .uses;
     guest-le = q .guest-le;
     clean = λ j h. test (eqb j i)
         (λ e. let z : guestOf rc i ≡ 16 = ap (guestOf rc) (sym (eqb-true j i e)) ∙ h in absurd (omega arith))

@@ -29,6 +29,7 @@ use Rattle.card.specs.Card.{Card, reg, setReg}
 use Rattle.lowering.specs.declared.RegCache.{RegCache}
 use Rattle.lowering.specs.Instrs.{CPU, mov, ldr, str}
 use Rattle.lowering.specs.Cache.{host, offReg, FREE, position, oldest, isHeld, chosen, slotFor, spill, seated, stored, ldReg, stReg}
+use Rattle.lowering.proofs.Lookups.{oldest-lt, chosen-lt}
 use Rattle.relation.specs.Lines.{arm, ofEffect, bare, exec}
 use Rattle.relation.specs.Abs.{Abs, upd, withTemp, withCard}
 use Rattle.demand.specs.Claim.{slotOf}
@@ -37,7 +38,8 @@ use Rattle.registers.proofs.Basics.{test, absurd-bool, upd-same, upd-up
 use Rattle.registers.proofs.Frags.{frag-map, frag-pre, frag-with, frag-nil, frag-one, frag-append}
 use Rattle.registers.proofs.Access.{wrote, count-now, size-now, ldr-now, str-now}
 use Rattle.registers.proofs.Fields.{kept-reg}
-use Rattle.registers.proofs.Cache.{held-slot, free-slot, oldest-lt, chosen-lt, slots-touch, slots-assign, slots-mark, view-set, getD-default, cached-clean, cached-spill, cached-put}
+use Rattle.registers.proofs.Cache.{held-slot, free-slot, slots-touch, slots-assign, slots-mark, view-set, getD-default}
+use Rattle.registers.proofs.Cache.{cached-clean, cached-spill, cached-put}
 
 -- ---- 32 bits of a register to another
 pub exec-move : (h : Helpers) (s : State) (rd rm : ℕ) → length (s .x) ≡ 31 → exec h (mov rd rm) s ≡ fall (bare (withX rd (R W s rm) s))
@@ -107,7 +109,7 @@ module _ {b : Block} {h : Helpers} {s0 : State} (B : Body b h s0) (C : Checked b
 
       dirty : isHeld rc FREE ≡ false → dirtyOf rc (oldest rc) ≡ true → Frag (arm h base) {n = n} (code (spill (b .layout) rc)) (View b s0 (guestOf rc) (dirtyOf rc) a) (View b s0 (guestOf rc) (upd (dirtyOf rc) (chosen rc) false) a)
       dirty e f =
-          let l : oldest rc < 8 = oldest-lt q in
+          let l : oldest rc < 8 = oldest-lt rc in
           let z : guestOf rc (oldest rc) ≢ 16 = free-slot q FREE e (oldest rc) l in
           let y : guestOf rc (oldest rc) ≤ 16 = q .guest-le (oldest rc) in
           rw (e, f, getD-default (rc .guest) (oldest rc) 0 16 (omega (arith, q .guests))) (str-slot (guestOf rc) (dirtyOf rc) a (oldest rc) l (omega arith))
@@ -137,7 +139,7 @@ module _ {b : Block} {h : Helpers} {s0 : State} (B : Body b h s0) (C : Checked b
 
       new : Slots rc → isHeld rc r ≡ false → Frag (arm h base) {n = n} (code (ldReg (b .layout) rc t r)) (View b s0 (guestOf rc) (dirtyOf rc) a) (Sim b s0 (seated rc r) (withTemp t (some (reg (a .c) r)) a))
       new p e =
-          let l : chosen rc < 8 = chosen-lt p in
+          let l : chosen rc < 8 = chosen-lt rc in
           rw e (frag-map
           (frag-append (frag-append (spill-frag B C base a p) (ldr-slot B C base (guestOf rc) (upd (dirtyOf rc) (chosen rc) false) a (chosen rc) r l m (free-slot p r e) (λ z. upd-same (dirtyOf rc) (chosen rc) false)))
           (slot-to a t (chosen rc) r q l m (upd-same (guestOf rc) (chosen rc) r)))
@@ -200,7 +202,7 @@ module _ {b : Block} {h : Helpers} {s0 : State} (B : Body b h s0) (C : Checked b
 
       new : Slots rc → isHeld rc r ≡ false → Frag (arm h base) {n = n} (code (stReg (b .layout) rc t r)) (View b s0 (guestOf rc) (dirtyOf rc) a) (Sim b s0 (stored rc r) (withCard (setReg r v (a .c)) a))
       new p e =
-          let l : chosen rc < 8 = chosen-lt p in
+          let l : chosen rc < 8 = chosen-lt rc in
           let dl : length (set (rc .dirty) (chosen rc) false) ≡ 8 = length-set (rc .dirty) (chosen rc) false ∙ p .dirties in
           let z : getD (set (rc .guest) (chosen rc) r) (chosen rc) 16 ≡ r = getD-set-same (rc .guest) (chosen rc) r 16 (omega (arith, p .guests)) in
           rw e (frag-map

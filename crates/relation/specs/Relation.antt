@@ -144,7 +144,6 @@ dirtyOf rc i = getD (rc .dirty) i false
 pub record Slots (rc : RegCache) : Type 0 where
   pub guests : length (rc .guest) ≡ 8
   pub dirties : length (rc .dirty) ≡ 8
-  pub uses : length (rc .used) ≡ 8
   pub guest-le : (i : ℕ) → guestOf rc i ≤ 16
   pub clean : (i : ℕ) → guestOf rc i ≡ 16 → dirtyOf rc i ≡ false
 
