@@ -27,7 +27,7 @@ HEAD = """-- Each record gives these words and these sites, by computation.
 use mathlib.Core.Path.{_≡_, refl}
 use mathlib.Core.List.{List, [], _∷_}
 use Prim.Native.Nat.{ℕ, zero, suc, _/_, _%_, _^_}
-use Rattle.lowering.specs.Compile.{Site}
+use Rattle.lowering.specs.declared.Site.{Site}
 """
 
 HEX = """
