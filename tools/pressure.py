@@ -1,9 +1,10 @@
-"""Records whose blocks ask for more registers than the cache has slots, so that slots are given up throughout.
+"""Records with many guest registers a block, so that most blocks give up slots of the register cache.
 
     python3 tools/pressure.py SEED COUNT > FILE
 
-A record a line, in hexadecimal, as tools/block_cases.py takes it (`--drawn FILE`). A block has 12 to 32 operations on eight to sixteen guest
-registers, some of which are used more often than the others; most operations stay in the registers, some load or store.
+A record a line, in hexadecimal, as tools/block_cases.py takes it (`--drawn FILE`). A block has 12 to 32 operations that draw from eight to sixteen
+guest registers, some of them more often than the others; most operations stay in the registers, some load or store. A block that uses nine
+registers or more gives up a slot; with the seed 11 these are 16,081 of 20,000.
 """
 import random
 import struct
