@@ -1,13 +1,15 @@
-/* Translates the records of standard input, one a line in hexadecimal, for host/speed.py.
+/* Translates the records of standard input, one a line in hexadecimal, or counts the words that they need, for host/speed.py.
  *
  *     speed ROUNDS LENT
+ *     speed ROUNDS needed
  *
- * Each round translates every record once, with LENT words lent, at most 16,384. Prints the number of records, how many of them were accepted, the
- * number of their words, and the nanoseconds of a call on average.
+ * Each round translates every record once, with LENT words lent, at most 16,384, or counts its words. Prints the number of records, how many of
+ * them were accepted, the number of their words, and the nanoseconds of a call on average.
  */
 #define _POSIX_C_SOURCE 199309L
 #include <stdio.h>
 #include <stdlib.h>
+#include <string.h>
 #include <time.h>
 
 #include "werfund.h"
@@ -38,16 +40,26 @@ static size_t read_records(void) {
     return records;
 }
 
+/* One call; its answer's words are behind the place. */
+static uint32_t call(int counts, size_t i, size_t lent, uint64_t *answer) {
+    const uint8_t *record = bytes + start[i];
+    size_t length = start[i + 1] - start[i];
+    return counts ? werfund_words_needed(record, length, table, answer, WERFUND_NEED)
+                  : werfund_translate(record, length, words, lent, table, answer, WERFUND_ANSWER);
+}
+
 int main(int argc, char **argv) {
     size_t records, accepted = 0, count = 0, lent;
     long rounds;
+    int counts;
     struct timespec before, behind;
     double ns;
     if (argc < 3) {
-        fprintf(stderr, "usage: speed ROUNDS LENT\n");
+        fprintf(stderr, "usage: speed ROUNDS LENT|needed\n");
         return 2;
     }
     rounds = strtol(argv[1], NULL, 10);
+    counts = strcmp(argv[2], "needed") == 0;
     lent = strtoul(argv[2], NULL, 10);
     records = read_records();
     if (rounds < 1 || WORDS < lent || records == 0) {
@@ -58,7 +70,7 @@ int main(int argc, char **argv) {
     for (long r = 0; r < rounds; r++) {
         for (size_t i = 0; i < records; i++) {
             uint64_t answer[WERFUND_ANSWER];
-            accepted += werfund_translate(bytes + start[i], start[i + 1] - start[i], words, lent, table, answer, WERFUND_ANSWER) == WERFUND_ACCEPTED;
+            accepted += call(counts, i, lent, answer) == WERFUND_ACCEPTED;
             count += answer[1];
         }
     }

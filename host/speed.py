@@ -1,11 +1,11 @@
-"""Speed and stack of `translate` beside the commit's `compile`, in one run on one machine: the tables of docs/SPEED.md.
+"""Speed and stack of `translate` and `words_needed` beside the commit's `compile`, in one run on one machine: the tables of docs/SPEED.md.
 
     python3 host/speed.py ORACLE_DIR ORACLE
 
 ORACLE_DIR has the oracle's blocks.py, and ORACLE is its program. Needs rt, gcc, objdump and valgrind. Prints Markdown.
 
-Instructions are callgrind's, of `werfund_translate` in the static library and of `main::jit::compile` in the oracle with all that they call, on the
-same records. Times are of a call in a loop, the least of 15 runs that all measurements make by turns. The parts of `translate` are told apart from
+Instructions are callgrind's, of `werfund_translate` and `werfund_words_needed` in the static library and of `main::jit::compile` in the oracle with all
+that they call, on the same records. Times are of a call in a loop, the least of 15 runs that all measurements make by turns. The parts of `translate` are told apart from
 outside, so that no function has to stay one in the compiled code:
 
     read     the records with a byte behind them, at which reading ends with fault 1; nothing is lent
@@ -48,8 +48,8 @@ def longest():
     """The record of the frozen cases whose block has most words, and their number."""
     cases, at, best = open(os.path.join(TOP, "crates/blockcases/stdin"), "rb").read(), 0, (0, b"")
     while at < len(cases):
-        size, words, length = (struct.unpack_from("<I", cases, at + k)[0] for k in (0, 16, 44))
-        best = max(best, (words, cases[at + 48 : at + 48 + length]))
+        size, words, length = (struct.unpack_from("<I", cases, at + k)[0] for k in (0, 16, 56))
+        best = max(best, (words, cases[at + 60 : at + 60 + length]))
         at += 4 + size
     return best[1], best[0]
 
@@ -67,6 +67,10 @@ def instructions(function, command, lines):
 
 def ours(lines, lent=LENT):
     return instructions("werfund_translate", [SPEED, "1", str(lent)], lines)
+
+
+def our_count(lines):
+    return instructions("werfund_words_needed", [SPEED, "1", "needed"], lines)
 
 
 def our_time(lines, rounds, lent=LENT):
@@ -206,14 +210,22 @@ def main():
 
     sets = ("1,000 drawn", drawn, 50), ("the empty block, 35 words", empty, 5000), (f"the longest block, {words:,} words", long, 50)
     times = [time(lines, rounds) for _, lines, rounds in sets for time in (our_time, rust_time)]
-    times = least(times + [our_time(behind, 50, 0), our_time(drawn, 50, 0)])
+    times += [our_time(behind, 50, 0), our_time(drawn, 50, 0)]
+    times = least(times + [our_time(lines, rounds, "needed") for _, lines, rounds in sets])
 
     print(f"{machine()}\n")
     print("Instructions and nanoseconds a record:\n")
     row("Records", "`translate`, instructions", "Rust, instructions", "`translate`, ns", "Rust, ns")
     row("---", "---:", "---:", "---:", "---:")
+    translated = [ours(lines) for _, lines, _ in sets]
     for k, (name, lines, _) in enumerate(sets):
-        row(name, ours(lines), rust(lines), times[2 * k], times[2 * k + 1])
+        row(name, translated[k], rust(lines), times[2 * k], times[2 * k + 1])
+
+    print("\nThe words counted, before any are lent:\n")
+    row("Records", "`words_needed`, instructions", "`translate`, instructions", "`words_needed`, ns", "`translate`, ns")
+    row("---", "---:", "---:", "---:", "---:")
+    for k, (name, lines, _) in enumerate(sets):
+        row(name, our_count(lines), translated[k], times[8 + k], times[2 * k])
 
     print("\nThe parts, on the 1,000 drawn records:\n")
     counts = apart(ours(behind, 0), ours(drawn, 0), ours(drawn))
@@ -243,7 +255,8 @@ def main():
     for name in sorted(own, key=own.get, reverse=True)[:4]:
         row(f"`{name}`", own[name], of(name)[0])
     deep, path = of("werfund_translate")
-    print(f"\nThe deepest: {deep:,} bytes, by " + ", ".join(f"`{p}`" for p in path) + f"; `werfund_link`: {of('werfund_link')[0]:,}.")
+    others = "; ".join(f"`{name}`: {of(name)[0]:,}" for name in ("werfund_words_needed", "werfund_link"))
+    print(f"\nThe deepest: {deep:,} bytes, by " + ", ".join(f"`{p}`" for p in path) + f"; {others}.")
 
 
 if __name__ == "__main__":

@@ -25,6 +25,9 @@ extern "C" {
 /* Numbers of an answer. */
 #define WERFUND_ANSWER 8
 
+/* Numbers of an answer of werfund_words_needed. */
+#define WERFUND_NEED 2
+
 /* What a call answers: document 01's faults, by their numbers there. */
 enum werfund_fault {
     WERFUND_ACCEPTED = 0,
@@ -37,7 +40,7 @@ enum werfund_fault {
     WERFUND_START = 7,        /* a block's address outside 02000000 to 03ffffff */
     WERFUND_OPERATIONS = 8,   /* a 33rd operation */
     WERFUND_BEHIND_JUMP = 9,  /* an operation behind a jump */
-    WERFUND_ROOM = 10,        /* more words are needed than lent; it comes last, so the record has no other fault */
+    WERFUND_ROOM = 10,        /* translate: more words are needed than lent; it comes last, so the record has no other fault */
     WERFUND_REACH = 11,       /* link: the body is out of reach */
     WERFUND_UNALIGNED = 12    /* link: an address that is no multiple of 4 */
 };
@@ -59,9 +62,18 @@ enum werfund_fault {
  *     3  the number of chain sites, 0 to 2
  *
  * What there is not is 0: place in an accepted block, the others in a refused record.
+ *
+ * werfund_words_needed answers how many words the record's block takes, before any are lent; `words` is no part of it. With that many words or
+ * more werfund_translate accepts the record, and with fewer it answers 10. The result is 0, or the fault's number, 1 to 9, with which
+ * werfund_translate refuses the record whatever is lent. `answer` gets as many of these two as it has room for, and its other cells are untouched:
+ *
+ *     0  the fault's place, an offset in the record
+ *     1  the number of words
  */
 uint32_t werfund_translate(const uint8_t *record, size_t record_bytes, uint32_t *words, size_t words_lent, uint64_t *table, uint64_t *answer,
                            size_t answer_cells);
+
+uint32_t werfund_words_needed(const uint8_t *record, size_t record_bytes, uint64_t *table, uint64_t *answer, size_t answer_cells);
 
 /* The word of the branch from a chain site to a body in the lower 32 bits, and 0 above it; or the fault's number, 11 or 12, in the upper 32 bits,
  * and 0 below it. Both addresses are signed numbers of 64 bits. */
@@ -83,6 +95,12 @@ typedef struct werfund_answer {
     uint32_t sites;
     werfund_site site[2];
 } werfund_answer;
+
+/* The number of words that a block takes, or a fault's place; the other is 0. */
+typedef struct werfund_need {
+    size_t place;
+    uint32_t words;
+} werfund_need;
 
 /* Whether two pieces of memory have no byte in common. */
 static inline int werfund_apart(const void *a, size_t a_bytes, const void *b, size_t b_bytes) {
@@ -125,6 +143,27 @@ static inline uint32_t werfund_translate_checked(const uint8_t *record, size_t r
     answer->site[0].target = (uint32_t)cells[5];
     answer->site[1].at = (uint32_t)cells[6];
     answer->site[1].target = (uint32_t)cells[7];
+    return fault;
+}
+
+/* How many words a record's block takes, so that the code space can be reserved before it is translated: lent that many words or more,
+ * werfund_translate_checked accepts it. Answers 0, the fault's number, 1 to 9, or WERFUND_MISUSE, as werfund_translate_checked does. */
+static inline uint32_t werfund_words_needed_checked(const uint8_t *record, size_t record_bytes, uint64_t *table, werfund_need *need) {
+    uint8_t no_record = 0;
+    uint64_t cells[WERFUND_NEED];
+    size_t table_bytes = WERFUND_TABLE * sizeof *table;
+    uint32_t fault;
+    if (!werfund_stands(record, record_bytes, 1) || !werfund_stands(table, WERFUND_TABLE, sizeof *table) ||
+        !werfund_stands(need, 1, sizeof need->place)) {
+        return WERFUND_MISUSE;
+    }
+    if (!werfund_apart(record, record_bytes, table, table_bytes) || !werfund_apart(need, sizeof *need, record, record_bytes) ||
+        !werfund_apart(need, sizeof *need, table, table_bytes)) {
+        return WERFUND_MISUSE;
+    }
+    fault = werfund_words_needed(record_bytes == 0 ? &no_record : record, record_bytes, table, cells, WERFUND_NEED);
+    need->place = (size_t)cells[0];
+    need->words = (uint32_t)cells[1];
     return fault;
 }
 

@@ -4,7 +4,7 @@
 
 RECORDS_TXT is the oracle's vectors/public/records.txt, which has the answers and the numbers of lent words. A FILE has a record a line in
 hexadecimal, as blocks.py prints it; ORACLE answers each with 16,384 words lent. With --edge it answers each accepted record twice more: with
-as many words lent as it needs, and with one less.
+as many words lent as it needs, and with one less. How many words a block takes is ORACLE's, by --sizes.
 
 OUT is a run of cases. A case is numbers of 32 bits, little-endian, and the record's bytes:
 
@@ -12,6 +12,7 @@ OUT is a run of cases. A case is numbers of 32 bits, little-endian, and the reco
     words lent
     the fault's number and place, 0 and 0 where the record is accepted; words, body offset, sites; position and target of each of two sites,
     0 and 0 where there is none
+    whatever is lent: the fault's number and place, 0 and 0 where there is none but 10; the words that the block takes
     the record's length, and its bytes
     the words
 
@@ -60,7 +61,16 @@ def edge(oracle, records):
                 yield from answered(oracle, lent, [record])
 
 
-def case(lent, record, listing):
+def needs(oracle, records):
+    """Of each record, whatever is lent: the fault's number and place, and the words that the block takes."""
+    lines = "".join(r.hex() + "\n" for r in records)
+    out = subprocess.run([oracle, "--sizes"], input=lines, capture_output=True, text=True, check=True).stdout
+    answers = [line.split() for line in out.splitlines()]
+    assert len(answers) == len(records)
+    return [(int(a[1]), int(a[2]), 0) if a[0] == "refused" else (0, 0, int(a[0])) for a in answers]
+
+
+def case(lent, record, listing, need):
     """A case's bytes."""
     head = listing[0]
     if head == ["long"]:
@@ -74,7 +84,7 @@ def case(lent, record, listing):
         sites = [(int(line[1]), int(line[2], 16)) for line in listing if line[0] == "site"]
         assert len(words) == int(head[1]) and len(sites) <= 2
     two = [n for site in (sites + [(0, 0)] * 2)[:2] for n in site]
-    rest = struct.pack("<11I", lent, *fault, len(words), body, len(sites), *two, len(record))
+    rest = struct.pack("<14I", lent, *fault, len(words), body, len(sites), *two, *need, len(record))
     rest += record + struct.pack(f"<{len(words)}I", *words)
     return struct.pack("<I", len(rest)) + rest
 
@@ -92,8 +102,9 @@ def main():
 
         def write(cases):
             nonlocal count, refused, words
-            for c in cases:
-                b = case(*c)
+            cases = list(cases)
+            for c, need in zip(cases, needs(a.oracle, [record for _, record, _ in cases])):
+                b = case(*c, need)
                 f.write(b)
                 if b:
                     count += 1

@@ -1,6 +1,7 @@
-/* Translates document 01's block of no operations, copies its words to a code buffer twice, and links the first copy's chain site with the second
- * copy's body. */
+/* Reserves code space for two copies of document 01's block of no operations by the number of words that it needs, translates it there, copies it
+ * behind itself, and links the first copy's chain site with the second copy's body. */
 #include <stdio.h>
+#include <stdlib.h>
 #include <string.h>
 
 #include "../werfund.h"
@@ -18,28 +19,27 @@ static const uint8_t record[77] = {
     4, 4, 0, 0, 0, 0, 2                              /* the block's guest address, 02000000 */
 };
 
-/* Where the second copy starts, in words. */
-enum { SECOND = 64 };
-
 static uint64_t table[WERFUND_TABLE];
-static uint32_t words[16384];
-static uint32_t code[128];
 
-int main(void) {
+static int refused(uint32_t fault, size_t place) {
+    printf("refused %u %zu\n", (unsigned)fault, place);
+    return 1;
+}
+
+/* The block in `words` words of code space, its copy in as many behind them, and the first linked with the second. */
+static int build(uint32_t *code, size_t words) {
     werfund_answer block;
     uint32_t fault, branch;
-    fault = werfund_translate_checked(record, sizeof record, words, sizeof words / sizeof *words, table, &block);
+    fault = werfund_translate_checked(record, sizeof record, code, words, table, &block);
     if (fault != WERFUND_ACCEPTED) {
-        printf("refused %u %zu\n", (unsigned)fault, block.place);
-        return 1;
+        return refused(fault, block.place);
     }
     printf("words %u body %u sites %u\n", (unsigned)block.words, (unsigned)block.body, (unsigned)block.sites);
-    memcpy(code, words, block.words * sizeof *words);
-    memcpy(code + SECOND, words, block.words * sizeof *words);
+    memcpy(code + words, code, words * sizeof *code);
 
     /* Addresses as the processor will see them; here, those of the buffer. */
     uint32_t *site = code + block.site[0].at;
-    int64_t body = (int64_t)(intptr_t)(code + SECOND) + block.body;
+    int64_t body = (int64_t)(intptr_t)(code + words) + block.body;
     printf("site %u to %08x, word %08x\n", (unsigned)block.site[0].at, (unsigned)block.site[0].target, (unsigned)*site);
     fault = werfund_link_checked((int64_t)(intptr_t)site, body, &branch);
     if (fault != WERFUND_ACCEPTED) {
@@ -49,4 +49,23 @@ int main(void) {
     *site = branch; /* on the card, the instruction cache is then told */
     printf("linked, word %08x\n", (unsigned)*site);
     return 0;
+}
+
+int main(void) {
+    werfund_need need;
+    uint32_t fault, *code;
+    int status;
+    fault = werfund_words_needed_checked(record, sizeof record, table, &need);
+    if (fault != WERFUND_ACCEPTED) {
+        return refused(fault, need.place);
+    }
+    printf("needs %u\n", (unsigned)need.words);
+    code = malloc(2 * need.words * sizeof *code);
+    if (code == NULL) {
+        printf("no code space\n");
+        return 1;
+    }
+    status = build(code, need.words);
+    free(code);
+    return status;
 }

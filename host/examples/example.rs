@@ -1,10 +1,7 @@
-//! Translates document 01's block of no operations, copies its words to a code buffer twice, and links the first copy's chain site with the second
-//! copy's body.
+//! Reserves code space for two copies of document 01's block of no operations by the number of words that it needs, translates it there, copies it
+//! behind itself, and links the first copy's chain site with the second copy's body.
 use std::error::Error;
 use werfund::{link, Translator};
-
-/// Where the second copy starts, in words.
-const SECOND: usize = 64;
 
 /// Tag, length of two bytes, payload; numbers have their lowest byte first.
 fn field(tag: u8, payload: &[u8]) -> Vec<u8> {
@@ -37,17 +34,19 @@ fn record() -> Vec<u8> {
 }
 
 fn main() -> Result<(), Box<dyn Error>> {
-    let mut words = vec![0; 16384];
-    let block = Translator::new().translate(&record(), &mut words)?;
+    let record = record();
+    let mut translator = Translator::new();
+    let words = translator.words_needed(&record)?;
+    println!("needs {words}");
+    let mut code = vec![0; 2 * words];
+    let block = translator.translate(&record, &mut code[..words])?;
     println!(
         "words {} body {} sites {}",
         block.words,
         block.body,
         block.sites().len()
     );
-    let mut code = [0; 128];
-    code[..block.words].copy_from_slice(&words[..block.words]);
-    code[SECOND..SECOND + block.words].copy_from_slice(&words[..block.words]);
+    code.copy_within(..words, words);
 
     // Addresses as the processor will see them; here, those of the buffer.
     let address = |word: usize| code.as_ptr() as i64 + 4 * word as i64;
@@ -56,7 +55,7 @@ fn main() -> Result<(), Box<dyn Error>> {
         "site {} to {:08x}, word {:08x}",
         site.at, site.target, code[site.at]
     );
-    let branch = link(address(site.at), address(SECOND) + block.body as i64)?;
+    let branch = link(address(site.at), address(words) + block.body as i64)?;
     code[site.at] = branch; // on the card, the instruction cache is then told
     println!("linked, word {:08x}", code[site.at]);
     Ok(())

@@ -1,4 +1,5 @@
-/* The host's side in C: every case of a file through werfund_translate_checked, compared with its frozen answer; and what a caller may get wrong.
+/* The host's side in C: every case of a file through werfund_translate_checked and werfund_words_needed_checked, compared with its frozen answers;
+ * each once more with exactly the words that it needs, and with one fewer; and what a caller may get wrong.
  *
  *     tests CASES [COUNT]
  *
@@ -53,7 +54,7 @@ static int all(const uint32_t *words, size_t from, size_t to, uint32_t value) {
 
 /* ---- cases */
 
-enum { LENT, FAULT, PLACE, WORDS, BODY, SITES, AT0, TARGET0, AT1, TARGET1, LENGTH, NUMBERS };
+enum { LENT, FAULT, PLACE, WORDS, BODY, SITES, AT0, TARGET0, AT1, TARGET1, NEED_FAULT, NEED_PLACE, NEED_WORDS, LENGTH, NUMBERS };
 
 typedef struct frozen {
     uint32_t n[NUMBERS];
@@ -106,8 +107,37 @@ static int same(const frozen *c, uint64_t *table) {
     return equal;
 }
 
+/* Whether the number of words needed, or the fault, is the frozen one. */
+static int same_need(const frozen *c, uint64_t *table) {
+    uint8_t *record = room(c->n[LENGTH]);
+    werfund_need need;
+    uint32_t fault;
+    memcpy(record, c->record, c->n[LENGTH]);
+    fault = werfund_words_needed_checked(record, c->n[LENGTH], table, &need);
+    free(record);
+    return fault == c->n[NEED_FAULT] && need.place == c->n[NEED_PLACE] && need.words == c->n[NEED_WORDS];
+}
+
+/* Whether a block is accepted where exactly the words that it needs are lent, and answered 10 where one fewer is. */
+static int exact(const frozen *c, uint64_t *table) {
+    uint32_t needed = c->n[NEED_WORDS];
+    uint32_t *words = lend(needed);
+    werfund_answer a;
+    int accepted, short_of_one;
+    accepted = werfund_translate_checked(c->record, c->n[LENGTH], words, needed, table, &a) == WERFUND_ACCEPTED && a.words == needed;
+    for (size_t i = 0; accepted && i < c->n[WORDS]; i++) {
+        accepted = words[i] == number(c->words + 4 * i);
+    }
+    free(words);
+    words = lend(needed - 1);
+    short_of_one = werfund_translate_checked(c->record, c->n[LENGTH], words, needed - 1, table, &a) == WERFUND_ROOM && a.place == c->n[LENGTH] &&
+                   all(words, 0, needed - 1, 0);
+    free(words);
+    return accepted && short_of_one;
+}
+
 static void cases(const char *path, unsigned long count) {
-    unsigned long cases = 0, refused = 0, words = 0, different = 0;
+    unsigned long cases = 0, refused = 0, words = 0, different = 0, needs = 0, inexact = 0;
     uint64_t *table = room(WERFUND_TABLE * sizeof *table); /* not cleared */
     FILE *file = fopen(path, "rb");
     uint8_t *bytes;
@@ -120,13 +150,18 @@ static void cases(const char *path, unsigned long count) {
         cases++;
         refused += c.n[FAULT] != 0;
         words += c.n[WORDS];
-        different += !same(&c, table);
+        different += !same(&c, table) || !same_need(&c, table);
+        if (c.n[NEED_WORDS] != 0) {
+            needs++;
+            inexact += !exact(&c, table);
+        }
         free(bytes);
     }
     fclose(file);
     free(table);
-    printf("cases %lu\nrefused %lu\nwords %lu\ndifferent %lu\n", cases, refused, words, different);
+    printf("cases %lu\nrefused %lu\nwords %lu\ndifferent %lu\nexact %lu\n", cases, refused, words, different, needs - inexact);
     check(different == 0, "a case differs");
+    check(inexact == 0, "a block is not accepted with the words that it needs, or is with one fewer");
 }
 
 /* ---- the boundary */
@@ -153,6 +188,15 @@ static void empty(void) {
     check(werfund_translate_checked(empty_block, 77, words, 0, table, &a) == WERFUND_ROOM && a.place == 77, "no words are fault 10 at 77");
     check(werfund_translate_checked(NULL, 0, NULL, 0, table, &a) == WERFUND_CUT && a.place == 0, "nothing at all is fault 1 at 0");
     check(a.words == 0 && a.body == 0 && a.sites == 0 && a.site[0].at == 0 && a.site[1].target == 0, "a refusal has no counts and no sites");
+}
+
+static void needs(void) {
+    werfund_need need;
+    check(werfund_words_needed_checked(empty_block, 77, table, &need) == WERFUND_ACCEPTED && need.words == 35 && need.place == 0, "35 words are needed");
+    check(werfund_words_needed_checked(nop_block, 83, table, &need) == WERFUND_ACCEPTED && need.words != 0, "a Nop's block is counted");
+    check(werfund_words_needed_checked(empty_block, 76, table, &need) == WERFUND_CUT && need.place == 70 && need.words == 0, "a cut record is fault 1 at 70");
+    check(werfund_words_needed_checked(empty_block, 0, table, &need) == WERFUND_CUT && need.place == 0, "an empty record is fault 1 at 0");
+    check(werfund_words_needed_checked(NULL, 0, table, &need) == WERFUND_CUT && need.place == 0, "so is one at null");
 }
 
 static void lengths(void) {
@@ -202,6 +246,29 @@ static void misuse(void) {
     free(words);
 }
 
+/* Whether a count answers WERFUND_MISUSE, and leaves its answer as it was. */
+static int miscounted(const uint8_t *record, size_t bytes, uint64_t *tab, werfund_need *need) {
+    werfund_need before;
+    memset(&before, 0x77, sizeof before);
+    if (need != NULL) {
+        *need = before;
+    }
+    return werfund_words_needed_checked(record, bytes, tab, need) == WERFUND_MISUSE && (need == NULL || memcmp(need, &before, sizeof before) == 0);
+}
+
+static void need_misuse(void) {
+    uint8_t *bytes = (uint8_t *)table;
+    werfund_need need;
+    check(miscounted(NULL, 1, table, &need), "a null record with a length, counted");
+    check(miscounted(empty_block, 77, NULL, &need), "a null table, counted");
+    check(miscounted(empty_block, 77, table, NULL), "a null answer, counted");
+    check(miscounted(empty_block, 77, (uint64_t *)(void *)(bytes + 4), &need), "a table that is not aligned, counted");
+    check(miscounted(empty_block, (size_t)-1, table, &need), "a record longer than memory, counted");
+    check(miscounted(bytes + 8 * WERFUND_TABLE - 1, 2, table, &need), "a table that ends in the record, counted");
+    check(miscounted((uint8_t *)&need, 1, table, &need), "a record in the answer, counted");
+    check(miscounted(empty_block, 77, table, (werfund_need *)(void *)(table + WERFUND_TABLE - 1)), "an answer in the table, counted");
+}
+
 /* The library's own function: an answer of fewer cells, and of more. */
 static void few_cells(void) {
     static const uint64_t accepted[8] = {0, 35, 52, 1, 21, 0x02000000, 0, 0};
@@ -218,6 +285,24 @@ static void few_cells(void) {
                 equal = equal && cells[i] == (i < n && i < 8 ? (lent < 35 ? refused : accepted)[i] : 0x7777777777777777u);
             }
             check(fault == (lent < 35 ? 10u : 0u) && equal, "an answer gets as many cells as it has, and no more");
+        }
+    }
+}
+
+static void few_need_cells(void) {
+    static const uint64_t counted[2] = {0, 35};
+    static const uint64_t refused[2] = {70, 0};
+    for (size_t n = 0; n <= 4; n++) {
+        for (size_t bytes = 76; bytes <= 77; bytes++) {
+            uint64_t cells[4];
+            uint32_t fault;
+            int equal = 1;
+            memset(cells, 0x77, sizeof cells);
+            fault = werfund_words_needed(empty_block, bytes, table, cells, n);
+            for (size_t i = 0; i < 4; i++) {
+                equal = equal && cells[i] == (i < n && i < 2 ? (bytes < 77 ? refused : counted)[i] : 0x7777777777777777u);
+            }
+            check(fault == (bytes < 77 ? 1u : 0u) && equal, "a count's answer gets as many cells as it has, and no more");
         }
     }
 }
@@ -276,9 +361,12 @@ int main(int argc, char **argv) {
     }
     cases(argv[1], argc < 3 ? (unsigned long)-1 : strtoul(argv[2], NULL, 10));
     empty();
+    needs();
     lengths();
     misuse();
+    need_misuse();
     few_cells();
+    few_need_cells();
     interleaved();
     links();
     printf("checks %u\nfailed %u\n", checks, failures);

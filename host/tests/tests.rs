@@ -1,4 +1,5 @@
-//! The host's side in Rust: every case of a file through the wrapper, compared with its frozen answer; and the boundary.
+//! The host's side in Rust: every case of a file through the wrapper, compared with its frozen answers; each once more with exactly the words that it
+//! needs, and with one fewer; and the boundary.
 //!
 //!     tests CASES [COUNT]
 //!
@@ -34,10 +35,11 @@ fn numbers(bytes: &[u8]) -> Vec<u32> {
         .collect()
 }
 
-/// A case: the words lent, the frozen answer with its words, and the record.
+/// A case: the words lent, the frozen answer with its words, the words needed whatever is lent, and the record.
 struct Case {
     lent: usize,
     answer: Result<(usize, usize, Vec<Site>), Fault>,
+    need: Result<usize, Fault>,
     record: Vec<u8>,
     words: Vec<u32>,
 }
@@ -45,8 +47,12 @@ struct Case {
 /// The first case of a file's bytes, and the bytes behind it.
 fn next(bytes: &[u8]) -> (Case, &[u8]) {
     let (case, behind) = bytes[4..].split_at(numbers(&bytes[..4])[0] as usize);
-    let n = numbers(&case[..44]);
-    let (record, words) = case[44..].split_at(n[10] as usize);
+    let n = numbers(&case[..56]);
+    let (record, words) = case[56..].split_at(n[13] as usize);
+    let fault = |number, place| Fault {
+        number,
+        place: place as usize,
+    };
     let answer = match n[1] {
         0 => {
             let both = [
@@ -61,15 +67,17 @@ fn next(bytes: &[u8]) -> (Case, &[u8]) {
             ];
             Ok((n[3] as usize, n[4] as usize, both[..n[5] as usize].to_vec()))
         }
-        number => Err(Fault {
-            number,
-            place: n[2] as usize,
-        }),
+        number => Err(fault(number, n[2])),
+    };
+    let need = match n[10] {
+        0 => Ok(n[12] as usize),
+        number => Err(fault(number, n[11])),
     };
     (
         Case {
             lent: n[0] as usize,
             answer,
+            need,
             record: record.to_vec(),
             words: numbers(words),
         },
@@ -92,21 +100,48 @@ fn same(c: &Case, translator: &mut Translator) -> bool {
         && words[c.words.len()..].iter().all(|w| *w == rest)
 }
 
+/// Whether a block is accepted where exactly the words that it needs are lent, and answered 10 where one fewer is.
+fn exact(c: &Case, needed: usize, translator: &mut Translator) -> bool {
+    let mut words = vec![BEFORE; needed];
+    let accepted = translator
+        .translate(&c.record, &mut words)
+        .is_ok_and(|block| block.words == needed)
+        && words.starts_with(&c.words);
+    let ten = Fault {
+        number: 10,
+        place: c.record.len(),
+    };
+    words.fill(BEFORE);
+    let short = translator.translate(&c.record, &mut words[1..]) == Err(ten);
+    accepted && short && words[0] == BEFORE && words[1..].iter().all(|w| *w == 0)
+}
+
 fn cases(path: &str, count: usize, checks: &mut Checks) {
     let file = std::fs::read(path).expect(path);
     let mut rest = &file[..];
     let mut translator = Translator::new();
     let (mut cases, mut refused, mut words, mut different) = (0, 0, 0, 0);
+    let (mut needs, mut inexact) = (0, 0);
     while cases < count && !rest.is_empty() {
         let (case, behind) = next(rest);
         rest = behind;
         cases += 1;
         refused += case.answer.is_err() as usize;
         words += case.words.len();
-        different += !same(&case, &mut translator) as usize;
+        let need = translator.words_needed(&case.record);
+        different += !(same(&case, &mut translator) && need == case.need) as usize;
+        if let Ok(needed) = case.need {
+            needs += 1;
+            inexact += !exact(&case, needed, &mut translator) as usize;
+        }
     }
     println!("cases {cases}\nrefused {refused}\nwords {words}\ndifferent {different}");
+    println!("exact {}", needs - inexact);
     checks.check(different == 0, "a case differs");
+    checks.check(
+        inexact == 0,
+        "a block is not accepted with the words that it needs, or is with one fewer",
+    );
 }
 
 /// Document 01's block of no operations, at another address and behind `nops` Nops of two bytes.
@@ -146,6 +181,27 @@ fn boundary(checks: &mut Checks) {
     checks.check(
         translator.translate(&[], &mut []) == fault(1, 0),
         "nothing at all is fault 1 at 0",
+    );
+
+    checks.check(
+        translator.words_needed(&record) == Ok(35),
+        "35 words are needed",
+    );
+    checks.check(
+        translator.words_needed(&record[..76])
+            == Err(Fault {
+                number: 1,
+                place: 70,
+            }),
+        "a cut record is fault 1 at 70",
+    );
+    checks.check(
+        translator.words_needed(&[])
+            == Err(Fault {
+                number: 1,
+                place: 0,
+            }),
+        "an empty record is fault 1 at 0",
     );
 
     for lent in 34..=36 {

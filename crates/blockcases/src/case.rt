@@ -1,19 +1,20 @@
 // A case: a record with the answer that it must get.
 ghost use Prim.Native.Nat.{_<_};
+use translation::Needed;
 use translation::Sites;
 use translation::Translated;
 
-// Where the numbers of a case stand, in bytes: those of the answer follow each other from the fault's number on.
+// Where the numbers of a case stand, in bytes: those of the answers follow each other from the fault's number on.
 pub const FAULT: usize = 4;
 
 pub const WORDS: usize = 12;
 
-const LENGTH: usize = 40;
+const LENGTH: usize = 52;
 
-const RECORD: usize = 44;
+const RECORD: usize = 56;
 
-// Number, place, words, body offset, sites, and two sites.
-const NUMBERS: usize = 9;
+// Number, place, words, body offset, sites, and two sites; then number, place and words whatever is lent.
+const NUMBERS: usize = 12;
 
 // What the lent words hold before the translation, so that a word that is left as it was can be told from one that is written.
 const BEFORE: u32 = 0x5a5a_5a5a;
@@ -41,34 +42,48 @@ fn wide(n: u32) -> u64 {
     n as u64
 }
 
-// An answer's numbers, in the order of a case.
-fn numbers(t: Translated) -> [u64; 9] {
+// The numbers of both answers, in the order of a case.
+fn numbers(t: Translated, need: Needed) -> [u64; 12] {
+    let mut n = [0; 12];
     match t {
         Translated::Accepted(words, body, sites) => {
-            let w = wide(words);
-            let b = wide(body);
+            n[2] = wide(words);
+            n[3] = wide(body);
             match sites {
-                Sites::None => [0, 0, w, b, 0, 0, 0, 0, 0],
-                Sites::One(s) => [0, 0, w, b, 1, wide(s.at), wide(s.target), 0, 0],
-                Sites::Two(s, t) => [
-                    0,
-                    0,
-                    w,
-                    b,
-                    2,
-                    wide(s.at),
-                    wide(s.target),
-                    wide(t.at),
-                    wide(t.target),
-                ],
+                Sites::None => {}
+                Sites::One(s) => {
+                    n[4] = 1;
+                    n[5] = wide(s.at);
+                    n[6] = wide(s.target);
+                }
+                Sites::Two(s, t) => {
+                    n[4] = 2;
+                    n[5] = wide(s.at);
+                    n[6] = wide(s.target);
+                    n[7] = wide(t.at);
+                    n[8] = wide(t.target);
+                }
             }
         }
-        Translated::Refused(number, place) => [wide(number), place as u64, 0, 0, 0, 0, 0, 0, 0],
+        Translated::Refused(number, place) => {
+            n[0] = wide(number);
+            n[1] = place as u64;
+        }
     }
+    match need {
+        Needed::Words(words) => {
+            n[11] = wide(words);
+        }
+        Needed::Refused(number, place) => {
+            n[9] = wide(number);
+            n[10] = place as u64;
+        }
+    }
+    n
 }
 
-// The first place at which a case has another number than the answer, or NUMBERS.
-fn other_number(case: &[u8], got: [u64; 9]) -> usize {
+// The first place at which a case has another number than the answers, or NUMBERS.
+fn other_number(case: &[u8], got: [u64; 12]) -> usize {
     let mut i = 0;
     while i < NUMBERS {
         if wide(number(case, FAULT + 4 * i)) != got[i] {
@@ -108,17 +123,16 @@ pub enum Found {
     Nothing,
 }
 
-// The first difference: its place among the numbers of the answer, or that of a word behind them.
+// The first difference: its place among the numbers of the answers, or that of a word behind them.
 fn compare_lent(case: &[u8], words: &mut [u32], table: &mut [u64; 6152]) -> Found {
     let end = RECORD + number(case, LENGTH) as usize;
     if case.len() < end {
         return Found::At(NUMBERS);
     }
+    let need = translation::words_needed(&case[RECORD..end], table);
     fill(words);
-    let k = other_number(
-        case,
-        numbers(translation::translate(&case[RECORD..end], words, table)),
-    );
+    let t = translation::translate(&case[RECORD..end], words, table);
+    let k = other_number(case, numbers(t, need));
     if k < NUMBERS {
         return Found::At(k);
     }

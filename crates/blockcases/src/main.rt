@@ -1,5 +1,6 @@
-// Translates the records of the input, and compares each answer with a frozen one: the fault, the counts, the sites, and every lent word.
-// Writes how much was compared, and the first difference where there is one. tools/block_cases.py makes the input, and says its form.
+// Translates the records of the input, and compares each answer with a frozen one: the fault, the counts, the sites, every lent word, and the
+// number of words that the block takes. Writes how much was compared, and the first difference where there is one. tools/block_cases.py makes
+// the input, and says its form.
 mod case;
 
 use case::Found;
@@ -7,7 +8,7 @@ use libc::STDIN_FILENO;
 use libc::STDOUT_FILENO;
 
 // A case has up to 16,384 words, and a record of up to 4,096 bytes.
-const ROOM: usize = 69676;
+const ROOM: usize = 69688;
 
 const LENT: usize = 16384;
 

@@ -1,4 +1,4 @@
--- Document 01's whole listing, for every lent slice: 35 words, or 10.
+-- Document 01's whole listing, for every lent slice: 35 words, or 10; and 35 are needed.
 use mathlib.Core.Path.{_≡_, refl, ap, _∙_}
 use mathlib.Core.Bool.{false}
 use mathlib.Core.List.{List, [], _∷_, _++_}
@@ -17,6 +17,7 @@ use Rattle.lowering.specs.Fragments.{chain, exitImm, limit, stepCode, stepCache
 use Rattle.lowering.specs.Compile.{blockWords, blockLines, blockCode, bodyOffset, sites, starts}
 use Rattle.finish.specs.Finish.{zeros}
 use Rattle.translation.specs.Translation.{accepted, refused, translation, lentAfter}
+use Rattle.translation.specs.WordsNeeded.{takes, needBehind, wordsNeeded}
 use Rattle.translation.proofs.Cases.{Short, Fits, is-short, does-fit}
 
 -- four bytes, lowest first
@@ -77,3 +78,8 @@ module _ (lent : List ℕ) where
   ten l =
       let f : Short record-bytes lent = is-short record-bytes lent (ap (λ (r : Reading). r .answer) read-is) (rw words-are l) in
       (f .answer, f .words)
+
+-- 2026-07
+pub needs-35 : wordsNeeded record-bytes ≡ takes 35
+unfolding wordsNeeded needBehind
+needs-35 = ap (λ (r : Reading). needBehind (r .answer) (reading record-bytes .block)) read-is ∙ ap (λ ws. takes (length ws)) words-are

@@ -1,9 +1,10 @@
-// Translation: a block record of any bytes to its block's words, in a lent slice.
+// Translation: a block record of any bytes to its block's words, in a lent slice; and how many words it takes, before any are lent.
 ghost use mathlib.Core.Path.{_≡_};
 ghost use Rattle.lowering.specs.Compile.{zipSites};
 ghost use Rattle.lower.specs.Lowers.{atsOf, targetsOf};
 ghost use Rattle.translation.specs.Translation.{listed, told, translation, lentAfter};
 ghost use Rattle.translation.specs.Contract.{Sited, Runs};
+ghost use Rattle.translation.specs.WordsNeeded.{needTold, wordsNeeded, Exact, Included};
 use finish::Finished;
 use lowering::Site;
 use record::Answer;
@@ -21,6 +22,12 @@ pub enum Sites {
 // The number of words, the body's offset in bytes and the chain sites; or a fault's number and place.
 pub enum Translated {
     Accepted(u32, u32, Sites),
+    Refused(u32, usize),
+}
+
+// The number of words that a block takes; or a fault's number and place.
+pub enum Needed {
+    Words(u32),
     Refused(u32, usize),
 }
 
@@ -66,6 +73,29 @@ pub fn translate(bytes: &[u8], words: &mut [u32], table: &mut [u64; 6152]) -> Tr
             match finished {
                 Finished::Words(n) => Translated::Accepted(n, BODY, listed_sites(c.sites)),
                 Finished::Short(n) => Translated::Refused(10, bytes.len()),
+            }
+        }
+    }
+}
+
+// The words that a record's block takes, by the lowering that `translate` calls: emitting counts also where there is no room. Nothing is
+// lent, so nothing is written but the table, which is working space.
+pub fn words_needed(bytes: &[u8], table: &mut [u64; 6152]) -> Needed
+    ensures { λ r. ⌜ needTold r ≡ wordsNeeded (now (bytes .entry)) ⌝ }
+    ensures { λ r. ⌜ Exact (needTold r) (now (bytes .entry)) ⌝ }
+    ensures { λ r. ⌜ Included (needTold r) (now (bytes .entry)) ⌝ }
+{
+    let reading = record::read(bytes);
+    let answer = reading.answer;
+    match answer {
+        Answer::Refused(number, place) => Needed::Refused(number, place),
+        Answer::Accepted => {
+            let mut none = [0u32; 0];
+            let c = compile::compile(&mut none, table, reading.block);
+            let finished = c.finished;
+            match finished {
+                Finished::Words(n) => Needed::Words(n),
+                Finished::Short(n) => Needed::Words(n),
             }
         }
     }

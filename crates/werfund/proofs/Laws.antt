@@ -19,6 +19,12 @@ lay-next (x ∷ xs) [] (suc i) h = refl
 lay-next (x ∷ xs) (y ∷ lent) zero h = refl
 lay-next (x ∷ xs) (y ∷ lent) (suc i) h = ap {B = List ℕ} (λ l. x ∷ l) (lay-next xs lent i (omega arith))
 
+-- two cells
+pub lay-two : (x y : ℕ) (lent : List ℕ) → set (set lent 0 x) 1 y ≡ lay (x ∷ y ∷ []) lent
+lay-two x y [] = refl
+lay-two x y (p ∷ []) = refl
+lay-two x y (p ∷ q ∷ lent) = refl
+
 -- a block's words w and body b, read as v and c; the sites' positions and targets likewise
 module _ (w b v c : ℕ) (ss : Sites) (h : v ≡ w) (k : c ≡ b) where
   pub no-site : ss ≡ None → 0 ∷ v ∷ c ∷ 0 ∷ 0 ∷ 0 ∷ 0 ∷ 0 ∷ [] ≡ cellsOf (accepted w b (listed ss))

@@ -1,4 +1,4 @@
--- A fault has a number from 1 on, so the number 0 says that the record is accepted.
+-- A fault has a number from 1 on, so the number 0 says that the record is accepted, or that the words are counted.
 use mathlib.Core.Path.{_≡_, refl, subst}
 use mathlib.Core.Bool.{Bool, true, false}
 use mathlib.Core.List.{List}
@@ -11,9 +11,11 @@ use Rattle.record.specs.declared.Answer.{Answer}
 use Rattle.record.specs.declared.Answer.the-variants.{Accepted, Refused}
 use Rattle.record.specs.declared.Reading.{Reading}
 use Rattle.record.specs.Record.{payloadLength, payload, operationOf, lastJumps, operationFault, refusedOr, push, endOr, operations, header, layoutField, memoryField, addressesField, startField, reading}
+use Rattle.lowering.specs.Compile.{blockWords}
 use Rattle.translation.specs.Translation.{translation}
+use Rattle.translation.specs.WordsNeeded.{takes, needBehind, wordsNeeded}
 use Rattle.translation.proofs.Cases.{Fits, Ends, faulty, short, fits, ends}
-use Rattle.werfund.specs.Answers.{numberOf}
+use Rattle.werfund.specs.Answers.{numberOf, needNumber}
 
 abbrev Numbered : Answer → Type 0
 Numbered Accepted = Unit {0}
@@ -48,3 +50,17 @@ zero-only-if bytes lent e = by (ends bytes lent)
     by (faulty x) = absurd (let n : x .number ≡ 0 = subst (λ t. numberOf t ≡ 0) (x .answer) e in let l : Numbered (Refused (x .number) (x .place)) = subst Numbered (x .fault) (numbered bytes) in omega arith)
     by (short x) = absurd (let n : _≡_ {A = ℕ} 10 0 = subst (λ t. numberOf t ≡ 0) (x .answer) e in omega arith)
     by (fits x) = x
+
+module _ (bytes : List ℕ) where
+  pub counted-if : reading bytes .answer ≡ Accepted → needNumber (wordsNeeded bytes) ≡ 0
+  unfolding wordsNeeded needBehind
+  counted-if e = rw e
+
+  pub counted-only-if : needNumber (wordsNeeded bytes) ≡ 0 → wordsNeeded bytes ≡ takes (length (blockWords (reading bytes .block)))
+  unfolding wordsNeeded needBehind
+  counted-only-if z = by (reading bytes .answer) (numbered bytes) z
+    where
+      by : (a : Answer) → Numbered a → needNumber (needBehind a (reading bytes .block)) ≡ 0
+          → needBehind a (reading bytes .block) ≡ takes (length (blockWords (reading bytes .block)))
+      by Accepted n e = refl
+      by (Refused number place) n e = absurd (omega arith)

@@ -6,6 +6,7 @@ use Rattle.lowering.specs.declared.Site.{Site}
 use Rattle.words.specs.declared.Encoded.{Encoded}
 use Rattle.words.specs.declared.Encoded.the-variants.{Word, Refused}
 use Rattle.translation.specs.Translation.{Told, accepted, refused}
+use Rattle.translation.specs.WordsNeeded.{Need, takes, meets}
 
 -- the fault's number, from 1 to 10; 0 where the record is accepted
 abbrev pub numberOf : Told → ℕ
@@ -21,6 +22,22 @@ siteCells (s ∷ ss) = s .at ∷ s .target ∷ siteCells ss
 abbrev pub cellsOf : Told → List ℕ
 cellsOf (accepted words body ss) = 0 ∷ words ∷ body ∷ length ss ∷ take 4 (siteCells ss ++ (0 ∷ 0 ∷ 0 ∷ 0 ∷ []))
 cellsOf (refused number place) = place ∷ 0 ∷ 0 ∷ 0 ∷ 0 ∷ 0 ∷ 0 ∷ 0 ∷ []
+
+-- of the words that a block takes: the fault's number, from 1 to 9, or 0; the fault's place; the words
+abbrev pub needNumber : Need → ℕ
+needNumber (takes words) = 0
+needNumber (meets number place) = number
+
+abbrev pub needPlace : Need → ℕ
+needPlace (takes words) = 0
+needPlace (meets number place) = place
+
+abbrev pub needWords : Need → ℕ
+needWords (takes words) = words
+needWords (meets number place) = 0
+
+abbrev pub needCells : Need → List ℕ
+needCells n = needPlace n ∷ needWords n ∷ []
 
 -- a link's word, or the fault's number above 32 bits of 0
 abbrev pub linkAnswer : Encoded → ℕ

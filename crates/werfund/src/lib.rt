@@ -5,7 +5,9 @@ ghost use Rattle.code.specs.Emit.{lay};
 ghost use Rattle.chain.specs.Link.{linked};
 ghost use Rattle.translation.specs.Translation.{accepted, listed, told, translation, lentAfter};
 ghost use Rattle.translation.specs.Contract.{Sited, Runs};
-ghost use Rattle.werfund.specs.Answers.{numberOf, cellsOf, linkAnswer};
+ghost use Rattle.translation.specs.WordsNeeded.{needTold, wordsNeeded, Exact, Included};
+ghost use Rattle.werfund.specs.Answers.{numberOf, cellsOf, needNumber, needPlace, needWords, needCells, linkAnswer};
+use translation::Needed;
 use translation::Sites;
 use translation::Translated;
 use words::Encoded;
@@ -96,6 +98,51 @@ pub extern "C" fn werfund_translate(
     let t = translation::translate(bytes, words, table);
     put_cells(answer, cells(t));
     number(t)
+}
+
+fn need_number(n: Needed) -> u32
+    ensures { λ r. ⌜ r ≡ needNumber (needTold n) ⌝ }
+{
+    match n {
+        Needed::Words(words) => 0,
+        Needed::Refused(number, place) => number,
+    }
+}
+
+fn need_place(n: Needed) -> u64
+    ensures { λ r. ⌜ r ≡ needPlace (needTold n) ⌝ }
+{
+    match n {
+        Needed::Words(words) => 0,
+        Needed::Refused(number, place) => place as u64,
+    }
+}
+
+fn need_words(n: Needed) -> u64
+    ensures { λ r. ⌜ r ≡ needWords (needTold n) ⌝ }
+{
+    match n {
+        Needed::Words(words) => words as u64,
+        Needed::Refused(number, place) => 0,
+    }
+}
+
+// The fault's number, 10 left out; 0 where there is none. `answer` gets place and words. The table is working room, as for `werfund_translate`.
+#[no_mangle]
+pub extern "C" fn werfund_words_needed(
+    bytes: &[u8],
+    table: &mut [u64; 6152],
+    answer: &mut [u64],
+) -> u32
+    ensures { λ r. ⌜ r ≡ needNumber (wordsNeeded (now (bytes .entry))) ⌝ }
+    ensures { λ r. ⌜ now (answer .exit) ≡ lay (needCells (wordsNeeded (now (bytes .entry)))) (now (answer .entry)) ⌝ }
+    ensures { λ r. ⌜ Exact (wordsNeeded (now (bytes .entry))) (now (bytes .entry)) ⌝ }
+    ensures { λ r. ⌜ Included (wordsNeeded (now (bytes .entry))) (now (bytes .entry)) ⌝ }
+{
+    let n = translation::words_needed(bytes, table);
+    put_cell(answer, 0, need_place(n));
+    put_cell(answer, 1, need_words(n));
+    need_number(n)
 }
 
 // The branch from a chain site to a body in the lower 32 bits, or the fault's number in the upper.

@@ -1,7 +1,7 @@
 //! The translator of block records to A64 code, for a host in Rust.
 //!
-//! What [`Translator::translate`] and [`link`] answer is proved in crates/werfund, for every record and every length. This wrapper lends them slices:
-//! that no pointer is null, that lengths are true and that nothing overlaps is Rust's to see to.
+//! What [`Translator::translate`], [`Translator::words_needed`] and [`link`] answer is proved in crates/werfund, for every record and every length.
+//! This wrapper lends them slices: that no pointer is null, that lengths are true and that nothing overlaps is Rust's to see to.
 //!
 //! Nothing is kept between calls, so that translators and threads do not disturb each other. How much stack a call needs is in docs/SPEED.md.
 //!
@@ -27,6 +27,13 @@ mod library {
             answer: *mut u64,
             answer_cells: usize,
         ) -> u32;
+        pub fn werfund_words_needed(
+            record: *const u8,
+            record_bytes: usize,
+            table: *mut u64,
+            answer: *mut u64,
+            answer_cells: usize,
+        ) -> u32;
         pub fn werfund_link(site: i64, body: i64) -> u64;
     }
 }
@@ -34,7 +41,7 @@ mod library {
 /// Cells of the table.
 const TABLE: usize = 6152;
 
-/// The working room of a translation, 49,216 bytes. It may serve any number of records, one after the other.
+/// The working room of a translation or a count, 49,216 bytes. It may serve any number of records, one after the other.
 pub struct Translator {
     table: Box<[u64; TABLE]>,
 }
@@ -64,7 +71,7 @@ impl Block {
     }
 }
 
-/// Why a record is refused: document 01's number, 1 to 10, and the place, an offset in the record. All lent words are then 0.
+/// Why a record is refused: document 01's number, 1 to 10, and the place, an offset in the record. All words that were lent are then 0.
 #[derive(Clone, Copy, Debug, PartialEq, Eq)]
 pub struct Fault {
     pub number: u32,
@@ -172,6 +179,49 @@ impl Translator {
             sites: [site(at0, target0), site(at1, target1)],
             count: count as usize,
         })
+    }
+
+    /// How many words a record's block takes, before any are lent: lent that many or more, [`translate`](Translator::translate) accepts the record,
+    /// and lent fewer it answers fault 10. Or the first fault, 1 to 9, with which `translate` refuses the record whatever is lent.
+    ///
+    /// ```
+    /// # fn number(n: u32) -> [u8; 4] { n.to_le_bytes() }
+    /// # let field = |tag: u8, payload: &[u8]| [&[tag, payload.len() as u8, 0], payload].concat();
+    /// # let record = [
+    /// #     field(1, &[0, 64, 68, 72, 76].map(number).concat()),
+    /// #     field(2, &[&[0x01000000, 0x00010000, 0x02000000, 0x00100000].map(number).concat()[..], &[0]].concat()),
+    /// #     field(3, &[0; 24]),
+    /// #     field(4, &number(0x02000000)),
+    /// # ]
+    /// # .concat();
+    /// // `record` is document 01's block of no operations
+    /// let mut translator = werfund::Translator::new();
+    /// let mut words = vec![0; translator.words_needed(&record)?];
+    /// assert_eq!(words.len(), 35);
+    /// assert_eq!(translator.translate(&record, &mut words)?.words, 35);
+    /// assert_eq!(translator.translate(&record, &mut words[..34]).unwrap_err().number, 10);
+    /// # Ok::<(), werfund::Fault>(())
+    /// ```
+    pub fn words_needed(&mut self, record: &[u8]) -> Result<usize, Fault> {
+        let mut answer = [0; 2];
+        // SAFETY: as of `translate`, without lent words.
+        let number = unsafe {
+            library::werfund_words_needed(
+                record.as_ptr(),
+                record.len(),
+                self.table.as_mut_ptr(),
+                answer.as_mut_ptr(),
+                answer.len(),
+            )
+        };
+        let [place, words] = answer;
+        if number != 0 {
+            return Err(Fault {
+                number,
+                place: place as usize,
+            });
+        }
+        Ok(words as usize)
     }
 }
 

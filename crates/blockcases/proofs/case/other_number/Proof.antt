@@ -5,10 +5,10 @@ use Rattle.blockcases.proofs.case.other_number.Statement.{statement}
 use Rattle.blockcases.proofs.case.other_number.Tie as tie
 
 abbrev Inv-loop : tie.InvT-loop
-Inv-loop case got i₀ i = i ≤ 9
+Inv-loop case got i₀ i = i ≤ 12
 
 abbrev μ-loop : tie.MeasureT-loop
-μ-loop case got i₀ i = 9 - i
+μ-loop case got i₀ i = 12 - i
 
 loop-holds : tie.Need-loop-holds Inv-loop μ-loop
 loop-holds c = search needs

@@ -1,0 +1,52 @@
+-- HOW MANY WORDS A RECORD'S BLOCK TAKES, from the record alone, for every list of bytes: document 02, "2026-07 Words needed, before any
+-- are written".
+use mathlib.Core.Path.{_≡_}
+use mathlib.Core.List.{List, []}
+use Prim.Native.Nat.{ℕ, _+_, _*_, _<_, _≤_}
+use lib.ListN.{length}
+use Rattle.block.specs.declared.Block.{Block}
+use Rattle.record.specs.declared.Answer.{Answer}
+use Rattle.record.specs.declared.Answer.the-variants.{Accepted as NoFault, Refused as Fault}
+use Rattle.record.specs.Record.{reading}
+use Rattle.code.specs.Items.{size, poolOf, padOf}
+use Rattle.lowering.specs.Compile.{blockWords, bodyOffset, sites}
+use Rattle.bounds.specs.Whole.{itemsOf, meant}
+use Rattle.translation.specs.declared.Needed.{Needed}
+use Rattle.translation.specs.declared.Needed.the-variants.{Words, Refused}
+use Rattle.translation.specs.Translation.{accepted, refused, translation}
+
+-- ---- an answer in document 02's numbers: "the number of words the block takes, or the refusal it would meet"
+pub data Need : Type 0 where
+  takes : (words : ℕ) → Need
+  meets : (number place : ℕ) → Need
+
+abbrev pub needTold : Needed → Need
+needTold (Words words) = takes words
+needTold (Refused number place) = meets number place
+
+-- ---- "10 left out": 10 comes behind the faults of reading and asks for lent words, of which there are none here
+unfoldable pub needBehind : Answer → Block → Need
+needBehind NoFault b = takes (length (blockWords b))
+needBehind (Fault number place) b = meets number place
+
+-- THE FIGURE
+unfoldable pub wordsNeeded : (bytes : List ℕ) → Need
+wordsNeeded bytes = needBehind (reading bytes .answer) (reading bytes .block)
+
+-- ---- what is promised of it
+-- "Translation into that many words is accepted; into one fewer it answers 10": so are more words, and so do all fewer; its place is
+-- the record's length. A refusal is not 10, and translation answers it whatever is lent.
+abbrev pub Exact : Need → (bytes : List ℕ) → Type 0
+Exact (takes words) bytes =
+    (lent : List ℕ)
+    → (words ≤ length lent → translation bytes lent ≡ accepted words bodyOffset (sites (reading bytes .block)))
+    × (length lent < words → translation bytes lent ≡ refused 10 (length bytes))
+Exact (meets number place) bytes = (number ≡ 10 → ⊥) × ((lent : List ℕ) → translation bytes lent ≡ refused number place)
+
+-- the instructions meant, "pool and nop included": a nop where a pool follows an odd number of them, two words for each literal
+abbrev pub counted : Block → ℕ
+counted b = length (meant b) + length (padOf (size (itemsOf b)) (poolOf [] (itemsOf b))) + 2 * length (poolOf [] (itemsOf b))
+
+abbrev pub Included : Need → (bytes : List ℕ) → Type 0
+Included (takes words) bytes = words ≡ counted (reading bytes .block)
+Included (meets number place) bytes = Unit {0}
