@@ -1,6 +1,6 @@
-// Translates the records of the input, and compares each answer with a frozen one: the fault, the counts, the sites, every lent word, and the
-// number of words that the block takes. Writes how much was compared, and the first difference where there is one. tools/block_cases.py makes
-// the input, and says its form.
+// Translates the records of the input, and compares each answer with a frozen one: the fault, the counts, the sites, every lent word, and
+// the number of words that the block takes. Writes how much was compared, and the first difference where there is one.
+// tools/block_cases.py makes the input, and says its form.
 mod case;
 
 use case::Found;

@@ -19,7 +19,7 @@ use Rattle.code.proofs.Order.{lay-put, lay-length, finish-lent}
 use Rattle.code.proofs.Reach.{whole-reach, emitted}
 use Rattle.asm.specs.State.{labelRoom, fixupRoom, tableRoom, State, state, begin, atMost, held, run}
 use Rattle.finish.specs.Finish.{patchedTo, write, zeros, written, needed, finished, finishedWords}
-use Rattle.finish.specs.Whole.{laid, told, Held}
+use Rattle.finish.specs.Whole.{laid, told, countOf, Held}
 use Rattle.finish.specs.declared.Finished.the-variants.{Words, Short}
 use Rattle.finish.proofs.Cases.{halves-length}
 use Rattle.finish.proofs.Track.{Tracks, kept-is, held-is, news, goes, Roomy, tracks-run}
@@ -280,3 +280,12 @@ module _ (tab : List ℕ) (full : length tab ≡ tableRoom) (c : Code top) (end 
       pick-same (length (s .words)) (length lent) (needed s) (length (linesWords (wholeLines c end))) _ _ _ _ room-is needed-is (ap (λ n. replicate n 0) room-is) words-are,
       pick-same (length (s .words)) (length lent) (needed s) (length (linesWords (wholeLines c end))) _ _ _ _ room-is needed-is (ap Short needed-is) (ap Words needed-is),
     )
+
+-- whatever is lent, the number told is that of the words
+pub count-told : (ws lent : List ℕ) → countOf (told ws lent) ≡ length ws
+unfolding told
+count-told ws lent = by (ltb (length lent) (length ws))
+  where
+    by : (t : Bool) → countOf (pick t (Short (length ws)) (Words (length ws))) ≡ length ws
+    by true = refl
+    by false = refl

@@ -19,6 +19,11 @@ laid ws lent = pick (ltb (length lent) (length ws)) (zeros lent) (lay ws lent)
 unfoldable pub told : List ℕ → List ℕ → Finished
 told ws lent = pick (ltb (length lent) (length ws)) (Short (length ws)) (Words (length ws))
 
+-- how many words the block takes, by what is told
+abbrev pub countOf : Finished → ℕ
+countOf (Words n) = n
+countOf (Short n) = n
+
 -- a block that the tables hold, that words carry, and in which each jump reaches
 pub record Held (c : Code top) (end : List Instr) : Type 0 where
   pub labels : labels c < labelRoom

@@ -6,12 +6,23 @@ ghost use lib.ListN.{set, length, getD};
 ghost use Rattle.code.specs.Items.{dist, halves, padOf, baseOf};
 ghost use Rattle.asm.specs.State.{literalRoom, fixupRoom, state, literalsFrom};
 ghost use Rattle.finish.specs.Finish.{fieldOf, patchIn, fixOf, leadIn, patchedAt, patchedTo, write, zeros, finished, finishedWords};
+ghost use Rattle.finish.specs.Whole.{countOf};
 use asm::Asm;
 
 // The words of a block, or how many are needed where fewer are lent.
 pub enum Finished {
     Words(u32),
     Short(u32),
+}
+
+// How many words a block takes, whether as many are lent or not.
+pub fn count(f: Finished) -> u32
+    ensures { λ r. ⌜ r ≡ countOf f ⌝ }
+{
+    match f {
+        Finished::Words(n) => n,
+        Finished::Short(n) => n,
+    }
 }
 
 fn low(v: u64) -> u32

@@ -1,11 +1,9 @@
 -- The number of words that a record's block takes is the one that translation asks for, and what `words_needed` answers at each of its
 -- ends is the definition's.
-use mathlib.Core.Path.{_≡_, refl, sym, ap, ap₂, subst, _∙_}
-use mathlib.Core.Bool.{Bool, true, false}
+use mathlib.Core.Path.{_≡_, refl, sym, ap, subst, _∙_}
 use mathlib.Core.List.{List, [], _++_, map}
-use Prim.Native.Nat.{ℕ, _*_, _≤_}
+use Prim.Native.Nat.{ℕ}
 use native.Mathlib.Omega.{arith}
-use lib.Dec.{ltb}
 use lib.ListN.{length, length-map, length-append}
 use Rattle.arm.specs.Instr.{encode}
 use Rattle.block.specs.declared.Block.{Block}
@@ -15,17 +13,17 @@ use Rattle.record.specs.declared.Answer.the-variants.{Accepted as NoFault, Refu
 use Rattle.record.specs.declared.Reading.{Reading}
 use Rattle.record.specs.Record.{reading}
 use Rattle.record.proofs.Accepted.{Bytes, read-checked}
-use Rattle.code.specs.Items.{pick, size, poolOf, padOf, halves}
+use Rattle.code.specs.Items.{size, poolOf, padOf, halves}
 use Rattle.lowering.specs.Compile.{blockWords}
 use Rattle.bounds.specs.Whole.{itemsOf, meant}
 use Rattle.bounds.proofs.Whole.{emitted}
 use Rattle.finish.specs.declared.Finished.{Finished}
-use Rattle.finish.specs.declared.Finished.the-variants.{Words, Short}
-use Rattle.finish.specs.Whole.{told}
+use Rattle.finish.specs.Whole.{told, countOf}
 use Rattle.finish.proofs.Cases.{halves-length}
+use Rattle.finish.proofs.Join.{count-told}
 use Rattle.translation.specs.declared.Needed.{Needed}
 use Rattle.translation.specs.Translation.{toldBehind, translation}
-use Rattle.translation.specs.WordsNeeded.{takes, meets, needTold, needBehind, wordsNeeded, Exact, counted, Included}
+use Rattle.translation.specs.WordsNeeded.{takes, needTold, needBehind, wordsNeeded, Exact, counted, Included}
 use Rattle.translation.proofs.Faults.{Early, early}
 use Rattle.translation.proofs.Cases.{is-short, does-fit}
 
@@ -34,8 +32,9 @@ all-counted : (b : Block) → Checked b → length (blockWords b) ≡ counted b
 all-counted b ck =
     let pool : List ℕ = poolOf [] (itemsOf b) in
     let pad : List ℕ = padOf (size (itemsOf b)) pool in
-    ap length (emitted b ck .words)
-    ∙ omega (arith, length-append (map encode (meant b)) (pad ++ halves pool), length-append pad (halves pool), length-map (meant b) encode, halves-length pool)
+    let front = length-append (map encode (meant b)) (pad ++ halves pool) in
+    let behind = length-append pad (halves pool) in
+    ap length (emitted b ck .words) ∙ omega (arith, front, behind, length-map (meant b) encode, halves-length pool)
 
 module _ (bytes : List ℕ) where
   abbrev b : Block
@@ -48,7 +47,7 @@ module _ (bytes : List ℕ) where
       by : (a : Answer) → reading bytes .answer ≡ a → Exact (needBehind a b) bytes
       by NoFault e = λ lent. ((λ l. does-fit bytes lent e l .answer), (λ l. is-short bytes lent e l .answer))
       by (Fault number place) e =
-          ((λ t. absurd (let l : Early (Fault number place) = subst Early e (early bytes) in omega arith)), (λ lent. rw e))
+          let l : Early (Fault number place) = subst Early e (early bytes) in ((λ t. absurd (omega arith)), (λ lent. rw e))
 
   pub included : Bytes bytes → Included (wordsNeeded bytes) bytes
   unfolding wordsNeeded needBehind
@@ -65,28 +64,16 @@ Figured bytes r = (needTold r ≡ wordsNeeded bytes) × (Exact (needTold r) byte
 figured : (bytes : List ℕ) (r : Needed) → Bytes bytes → needTold r ≡ wordsNeeded bytes → Figured bytes r
 figured bytes r are e = (e, subst (λ n. Exact n bytes × Included n bytes) (sym e) (exact bytes, included bytes are))
 
--- ---- what the end of an assembly tells, whatever is lent: the number of words
-abbrev pub countTold : Finished → ℕ
-countTold (Words n) = n
-countTold (Short n) = n
-
-count-is : (ws lent : List ℕ) → countTold (told ws lent) ≡ length ws
-unfolding told
-count-is ws lent = by (ltb (length lent) (length ws))
-  where
-    by : (t : Bool) → countTold (pick t (Short (length ws)) (Words (length ws))) ≡ length ws
-    by true = refl
-    by false = refl
-
+-- ---- the ends of `words_needed`
 module _ (bytes : List ℕ) (q : Reading) (are : Bytes bytes) (read : q ≡ reading bytes) where
   -- a fault of reading
   pub figured-fault : (number place : ℕ) → q .answer ≡ Fault number place → Figured bytes (Needed.Refused number place)
   unfolding wordsNeeded needBehind
   figured-fault number place e = figured bytes (Needed.Refused number place) are (rw (← read, e))
 
-  -- a block, counted without lent words
-  pub figured-words : (lent : List ℕ) (fin : Finished) (n : ℕ) → q .answer ≡ NoFault → fin ≡ told (blockWords (q .block)) lent → countTold fin ≡ n
-      → Figured bytes (Needed.Words n)
+  -- a block, counted whatever is lent
+  pub figured-words : (lent : List ℕ) (fin : Finished) (n : ℕ)
+      → q .answer ≡ NoFault → fin ≡ told (blockWords (q .block)) lent → n ≡ countOf fin → Figured bytes (Needed.Words n)
   unfolding wordsNeeded needBehind
   figured-words lent fin n e t k =
-      figured bytes (Needed.Words n) are (rw (← read, e) (ap takes (sym k ∙ ap countTold t ∙ count-is (blockWords (q .block)) lent)))
+      figured bytes (Needed.Words n) are (rw (← read, e) (ap takes (k ∙ ap countOf t ∙ count-told (blockWords (q .block)) lent)))

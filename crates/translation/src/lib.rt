@@ -93,10 +93,8 @@ pub fn words_needed(bytes: &[u8], table: &mut [u64; 6152]) -> Needed
             let mut none = [0u32; 0];
             let c = compile::compile(&mut none, table, reading.block);
             let finished = c.finished;
-            match finished {
-                Finished::Words(n) => Needed::Words(n),
-                Finished::Short(n) => Needed::Words(n),
-            }
+            let n = finish::count(finished);
+            Needed::Words(n)
         }
     }
 }

@@ -9,7 +9,8 @@ use Rattle.lowering.specs.declared.Site.{Site}
 use Rattle.translation.specs.declared.Sites.{Sites}
 use Rattle.translation.specs.declared.Sites.the-variants.{None, One, Two}
 use Rattle.translation.specs.Translation.{accepted, listed}
-use Rattle.werfund.specs.Answers.{cellsOf}
+use Rattle.translation.specs.WordsNeeded.{Need, takes, meets}
+use Rattle.werfund.specs.Answers.{cellsOf, needCells}
 
 -- one more cell
 pub lay-next : (xs lent : List ℕ) (i : ℕ) → i < length xs → set (lay (take i xs) lent) i (getD xs i 0) ≡ lay (take (suc i) xs) lent
@@ -19,11 +20,15 @@ lay-next (x ∷ xs) [] (suc i) h = refl
 lay-next (x ∷ xs) (y ∷ lent) zero h = refl
 lay-next (x ∷ xs) (y ∷ lent) (suc i) h = ap {B = List ℕ} (λ l. x ∷ l) (lay-next xs lent i (omega arith))
 
--- two cells
-pub lay-two : (x y : ℕ) (lent : List ℕ) → set (set lent 0 x) 1 y ≡ lay (x ∷ y ∷ []) lent
+-- two cells, one behind the other
+lay-two : (x y : ℕ) (lent : List ℕ) → set (set lent 0 x) 1 y ≡ lay (x ∷ y ∷ []) lent
 lay-two x y [] = refl
 lay-two x y (p ∷ []) = refl
 lay-two x y (p ∷ q ∷ lent) = refl
+
+pub lay-need : (n : Need) (lent : List ℕ) → set (set lent 0 (getD (needCells n) 0 0)) 1 (getD (needCells n) 1 0) ≡ lay (needCells n) lent
+lay-need (takes words) lent = lay-two 0 words lent
+lay-need (meets number place) lent = lay-two place 0 lent
 
 -- a block's words w and body b, read as v and c; the sites' positions and targets likewise
 module _ (w b v c : ℕ) (ss : Sites) (h : v ≡ w) (k : c ≡ b) where

@@ -23,21 +23,14 @@ abbrev pub cellsOf : Told → List ℕ
 cellsOf (accepted words body ss) = 0 ∷ words ∷ body ∷ length ss ∷ take 4 (siteCells ss ++ (0 ∷ 0 ∷ 0 ∷ 0 ∷ []))
 cellsOf (refused number place) = place ∷ 0 ∷ 0 ∷ 0 ∷ 0 ∷ 0 ∷ 0 ∷ 0 ∷ []
 
--- of the words that a block takes: the fault's number, from 1 to 9, or 0; the fault's place; the words
+-- of the words that a block takes: the fault's number, from 1 to 9, or 0; and the fault's place and the words, 0 for what there is not
 abbrev pub needNumber : Need → ℕ
 needNumber (takes words) = 0
 needNumber (meets number place) = number
 
-abbrev pub needPlace : Need → ℕ
-needPlace (takes words) = 0
-needPlace (meets number place) = place
-
-abbrev pub needWords : Need → ℕ
-needWords (takes words) = words
-needWords (meets number place) = 0
-
 abbrev pub needCells : Need → List ℕ
-needCells n = needPlace n ∷ needWords n ∷ []
+needCells (takes words) = 0 ∷ words ∷ []
+needCells (meets number place) = place ∷ 0 ∷ []
 
 -- a link's word, or the fault's number above 32 bits of 0
 abbrev pub linkAnswer : Encoded → ℕ

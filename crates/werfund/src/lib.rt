@@ -6,7 +6,7 @@ ghost use Rattle.chain.specs.Link.{linked};
 ghost use Rattle.translation.specs.Translation.{accepted, listed, told, translation, lentAfter};
 ghost use Rattle.translation.specs.Contract.{Sited, Runs};
 ghost use Rattle.translation.specs.WordsNeeded.{needTold, wordsNeeded, Exact, Included};
-ghost use Rattle.werfund.specs.Answers.{numberOf, cellsOf, needNumber, needPlace, needWords, needCells, linkAnswer};
+ghost use Rattle.werfund.specs.Answers.{numberOf, cellsOf, needNumber, needCells, linkAnswer};
 use translation::Needed;
 use translation::Sites;
 use translation::Translated;
@@ -109,25 +109,17 @@ fn need_number(n: Needed) -> u32
     }
 }
 
-fn need_place(n: Needed) -> u64
-    ensures { λ r. ⌜ r ≡ needPlace (needTold n) ⌝ }
+fn need_cells(n: Needed) -> [u64; 2]
+    ensures { λ r. ⌜ r ≡ needCells (needTold n) ⌝ }
 {
     match n {
-        Needed::Words(words) => 0,
-        Needed::Refused(number, place) => place as u64,
+        Needed::Words(words) => [0, wide(words)],
+        Needed::Refused(number, place) => [place as u64, 0],
     }
 }
 
-fn need_words(n: Needed) -> u64
-    ensures { λ r. ⌜ r ≡ needWords (needTold n) ⌝ }
-{
-    match n {
-        Needed::Words(words) => words as u64,
-        Needed::Refused(number, place) => 0,
-    }
-}
-
-// The fault's number, 10 left out; 0 where there is none. `answer` gets place and words. The table is working room, as for `werfund_translate`.
+// The fault's number, 10 left out; 0 where there is none. `answer` gets place and words. The table is working room, as it is for
+// `werfund_translate`.
 #[no_mangle]
 pub extern "C" fn werfund_words_needed(
     bytes: &[u8],
@@ -140,8 +132,9 @@ pub extern "C" fn werfund_words_needed(
     ensures { λ r. ⌜ Included (wordsNeeded (now (bytes .entry))) (now (bytes .entry)) ⌝ }
 {
     let n = translation::words_needed(bytes, table);
-    put_cell(answer, 0, need_place(n));
-    put_cell(answer, 1, need_words(n));
+    let cells = need_cells(n);
+    put_cell(answer, 0, cells[0]);
+    put_cell(answer, 1, cells[1]);
     need_number(n)
 }
 
