@@ -5,8 +5,8 @@
 ORACLE_DIR has the oracle's blocks.py, and ORACLE is its program. Needs rt, gcc, objdump and valgrind. Prints Markdown.
 
 Instructions are callgrind's, of `werfund_translate` and `werfund_words_needed` in the static library and of `main::jit::compile` in the oracle
-with all that they call, on the same records. Times are of a call in a loop, the least of 15 runs that all measurements make by turns. The parts of `translate` are told apart from
-outside, so that no function has to stay one in the compiled code:
+with all that they call, on the same records. Times are of a call in a loop, the least of 15 runs that all measurements make by turns. The parts
+of `translate` are told apart from outside, so that no function has to stay one in the compiled code:
 
     read     the records with a byte behind them, at which reading ends with fault 1; nothing is lent
     lower    the records with nothing lent, which ends with fault 10 behind the lowering, less read; no word is stored there

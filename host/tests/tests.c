@@ -123,17 +123,17 @@ static int exact(const frozen *c, uint64_t *table) {
     uint32_t needed = c->n[NEED_WORDS];
     uint32_t *words = lend(needed);
     werfund_answer a;
-    int accepted, short_of_one;
-    accepted = werfund_translate_checked(c->record, c->n[LENGTH], words, needed, table, &a) == WERFUND_ACCEPTED && a.words == needed;
-    for (size_t i = 0; accepted && i < c->n[WORDS]; i++) {
-        accepted = words[i] == number(c->words + 4 * i);
+    int enough, fewer;
+    enough = werfund_translate_checked(c->record, c->n[LENGTH], words, needed, table, &a) == WERFUND_ACCEPTED && a.words == needed;
+    for (size_t i = 0; enough && i < c->n[WORDS]; i++) {
+        enough = words[i] == number(c->words + 4 * i);
     }
     free(words);
     words = lend(needed - 1);
-    short_of_one = werfund_translate_checked(c->record, c->n[LENGTH], words, needed - 1, table, &a) == WERFUND_ROOM && a.place == c->n[LENGTH] &&
-                   all(words, 0, needed - 1, 0);
+    fewer = werfund_translate_checked(c->record, c->n[LENGTH], words, needed - 1, table, &a) == WERFUND_ROOM && a.place == c->n[LENGTH];
+    fewer = fewer && all(words, 0, needed - 1, 0);
     free(words);
-    return accepted && short_of_one;
+    return enough && fewer;
 }
 
 static void cases(const char *path, unsigned long count) {
@@ -190,13 +190,18 @@ static void empty(void) {
     check(a.words == 0 && a.body == 0 && a.sites == 0 && a.site[0].at == 0 && a.site[1].target == 0, "a refusal has no counts and no sites");
 }
 
-static void needs(void) {
+/* Whether a count answers so. */
+static int counts(const uint8_t *record, size_t bytes, uint32_t fault, size_t place, uint32_t words) {
     werfund_need need;
-    check(werfund_words_needed_checked(empty_block, 77, table, &need) == WERFUND_ACCEPTED && need.words == 35 && need.place == 0, "35 words are needed");
-    check(werfund_words_needed_checked(nop_block, 83, table, &need) == WERFUND_ACCEPTED && need.words != 0, "a Nop's block is counted");
-    check(werfund_words_needed_checked(empty_block, 76, table, &need) == WERFUND_CUT && need.place == 70 && need.words == 0, "a cut record is fault 1 at 70");
-    check(werfund_words_needed_checked(empty_block, 0, table, &need) == WERFUND_CUT && need.place == 0, "an empty record is fault 1 at 0");
-    check(werfund_words_needed_checked(NULL, 0, table, &need) == WERFUND_CUT && need.place == 0, "so is one at null");
+    return werfund_words_needed_checked(record, bytes, table, &need) == fault && need.place == place && need.words == words;
+}
+
+static void needs(void) {
+    check(counts(empty_block, 77, WERFUND_ACCEPTED, 0, 35), "35 words are needed");
+    check(counts(nop_block, 83, WERFUND_ACCEPTED, 0, 37), "a Nop's block at 02000800 needs 37");
+    check(counts(empty_block, 76, WERFUND_CUT, 70, 0), "a cut record is fault 1 at 70");
+    check(counts(empty_block, 0, WERFUND_CUT, 0, 0), "an empty record is fault 1 at 0");
+    check(counts(NULL, 0, WERFUND_CUT, 0, 0), "so is one at null");
 }
 
 static void lengths(void) {
