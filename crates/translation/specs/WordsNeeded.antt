@@ -18,30 +18,30 @@ use Rattle.translation.specs.Translation.{accepted, refused, translation
 -- ---- an answer in document 02's numbers: "the number of words the block takes, or the refusal it would meet"
 pub data Need : Type 0 where
   takes : (words : ℕ) → Need
-  meets : (number place : ℕ) → Need
+  refusedWith : (number place : ℕ) → Need
 
 abbrev pub needTold : Needed → Need
 needTold (Words words) = takes words
-needTold (Refused number place) = meets number place
+needTold (Refused number place) = refusedWith number place
 
--- ---- "10 left out": 10 comes behind the faults of reading and asks for lent words, of which there are none here
+-- ---- "10 left out": the first fault of reading; 10 comes behind all of these and asks for lent words, of which there are none here
 unfoldable pub needBehind : Answer → Block → Need
 needBehind NoFault b = takes (length (blockWords b))
-needBehind (Fault number place) b = meets number place
+needBehind (Fault number place) b = refusedWith number place
 
 -- THE FIGURE
 unfoldable pub wordsNeeded : (bytes : List ℕ) → Need
 wordsNeeded bytes = needBehind (reading bytes .answer) (reading bytes .block)
 
 -- ---- what is promised of it
--- "Translation into that many words is accepted; into one fewer it answers 10": so are more words, and so do all fewer; its place is
--- the record's length. A refusal is not 10, and translation answers it whatever is lent.
+-- "Translation into that many words is accepted; into one fewer it answers 10": it is accepted into more words too, and answers 10 into
+-- any fewer, with the record's length as the place. A refusal is not 10, and translation answers it whatever is lent.
 abbrev pub Exact : Need → (bytes : List ℕ) → Type 0
 Exact (takes words) bytes =
     (lent : List ℕ)
     → (words ≤ length lent → translation bytes lent ≡ accepted words bodyOffset (sites (reading bytes .block)))
     × (length lent < words → translation bytes lent ≡ refused 10 (length bytes))
-Exact (meets number place) bytes = (number ≡ 10 → ⊥) × ((lent : List ℕ) → translation bytes lent ≡ refused number place)
+Exact (refusedWith number place) bytes = (number ≡ 10 → ⊥) × ((lent : List ℕ) → translation bytes lent ≡ refused number place)
 
 -- the instructions meant, "pool and nop included": a nop where a pool follows an odd number of them, two words for each literal
 abbrev pub counted : Block → ℕ
@@ -49,4 +49,4 @@ counted b = length (meant b) + length (padOf (size (itemsOf b)) (poolOf [] (item
 
 abbrev pub Included : Need → (bytes : List ℕ) → Type 0
 Included (takes words) bytes = words ≡ counted (reading bytes .block)
-Included (meets number place) bytes = Unit {0}
+Included (refusedWith number place) bytes = Unit {0}

@@ -9,7 +9,7 @@ use Rattle.lowering.specs.declared.Site.{Site}
 use Rattle.translation.specs.declared.Sites.{Sites}
 use Rattle.translation.specs.declared.Sites.the-variants.{None, One, Two}
 use Rattle.translation.specs.Translation.{accepted, listed}
-use Rattle.translation.specs.WordsNeeded.{Need, takes, meets}
+use Rattle.translation.specs.WordsNeeded.{Need, takes, refusedWith}
 use Rattle.werfund.specs.Answers.{cellsOf, needCells}
 
 -- one more cell
@@ -28,7 +28,7 @@ lay-two x y (p ∷ q ∷ lent) = refl
 
 pub lay-need : (n : Need) (lent : List ℕ) → set (set lent 0 (getD (needCells n) 0 0)) 1 (getD (needCells n) 1 0) ≡ lay (needCells n) lent
 lay-need (takes words) lent = lay-two 0 words lent
-lay-need (meets number place) lent = lay-two place 0 lent
+lay-need (refusedWith number place) lent = lay-two place 0 lent
 
 -- a block's words w and body b, read as v and c; the sites' positions and targets likewise
 module _ (w b v c : ℕ) (ss : Sites) (h : v ≡ w) (k : c ≡ b) where

@@ -6,7 +6,7 @@ use Rattle.lowering.specs.declared.Site.{Site}
 use Rattle.words.specs.declared.Encoded.{Encoded}
 use Rattle.words.specs.declared.Encoded.the-variants.{Word, Refused}
 use Rattle.translation.specs.Translation.{Told, accepted, refused}
-use Rattle.translation.specs.WordsNeeded.{Need, takes, meets}
+use Rattle.translation.specs.WordsNeeded.{Need, takes, refusedWith}
 
 -- the fault's number, from 1 to 10; 0 where the record is accepted
 abbrev pub numberOf : Told → ℕ
@@ -26,11 +26,11 @@ cellsOf (refused number place) = place ∷ 0 ∷ 0 ∷ 0 ∷ 0 ∷ 0 ∷ 0 ∷ 0
 -- of the words that a block takes: the fault's number, from 1 to 9, or 0; and the fault's place and the words, 0 for what there is not
 abbrev pub needNumber : Need → ℕ
 needNumber (takes words) = 0
-needNumber (meets number place) = number
+needNumber (refusedWith number place) = number
 
 abbrev pub needCells : Need → List ℕ
 needCells (takes words) = 0 ∷ words ∷ []
-needCells (meets number place) = place ∷ 0 ∷ []
+needCells (refusedWith number place) = place ∷ 0 ∷ []
 
 -- a link's word, or the fault's number above 32 bits of 0
 abbrev pub linkAnswer : Encoded → ℕ
