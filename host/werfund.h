@@ -62,17 +62,19 @@ enum werfund_fault {
  *     3  the number of chain sites, 0 to 2
  *
  * What there is not is 0: place in an accepted block, the others in a refused record.
- *
- * werfund_words_needed answers how many words the record's block takes, before any are lent; `words` is no part of it. With that many words or
- * more werfund_translate accepts the record, and with fewer it answers 10. The result is 0, or the fault's number, 1 to 9, with which
- * werfund_translate refuses the record whatever is lent. `answer` gets as many of these two as it has room for, and its other cells are untouched:
- *
- *     0  the fault's place, an offset in the record
- *     1  the number of words
  */
 uint32_t werfund_translate(const uint8_t *record, size_t record_bytes, uint32_t *words, size_t words_lent, uint64_t *table, uint64_t *answer,
                            size_t answer_cells);
 
+/* How many words the record's block takes, before any are lent: with that many words or more werfund_translate accepts the record, and with fewer
+ * it answers 10. Answers 0, or the fault's number, 1 to 9, with which werfund_translate refuses the record whatever is lent. `answer` gets as many
+ * of these two as it has room for, and its other cells are untouched:
+ *
+ *     0  the fault's place, an offset in the record
+ *     1  the number of words
+ *
+ * What there is not is 0.
+ */
 uint32_t werfund_words_needed(const uint8_t *record, size_t record_bytes, uint64_t *table, uint64_t *answer, size_t answer_cells);
 
 /* The word of the branch from a chain site to a body in the lower 32 bits, and 0 above it; or the fault's number, 11 or 12, in the upper 32 bits,
