@@ -79,7 +79,7 @@ module _ (lent : List ℕ) where
       let f : Short record-bytes lent = is-short record-bytes lent (ap (λ (r : Reading). r .answer) read-is) (rw words-are l) in
       (f .answer, f .words)
 
--- 2026-07
+-- "the number of words the block takes"
 pub needs-35 : wordsNeeded record-bytes ≡ takes 35
 unfolding wordsNeeded needBehind
 needs-35 = ap (λ (r : Reading). needBehind (r .answer) (reading record-bytes .block)) read-is ∙ ap (λ ws. takes (length ws)) words-are

@@ -40,15 +40,19 @@ rise-below : (p q r : ℕ) (xs : List ℕ) → q ≤ r → Rise p q xs → Rise 
 rise-below p q r [] h k = omega arith
 rise-below p q r (x ∷ xs) h k = (k .0, rise-below (suc x) q r xs h (k .1))
 
-words-in : (b : Block) → words (blockCode b) ≤ length (blockWords b)
-unfolding blockWords blockLines
+-- the closing words stand behind the code
+words-in : (b : Block) → words (blockCode b) + 7 ≤ length (blockWords b)
+unfolding blockWords blockLines closing
 words-in b = omega (arith, lines-words (blockLines b), whole-size (blockCode b) closing, whole-length (blockCode b) closing)
+
+pub some-words : (b : Block) → 0 < length (blockWords b)
+some-words b = omega (arith, words-in b)
 
 sites-rise : (b : Block) → Rise 0 (length (blockWords b)) (positions (sites b))
 unfolding sites
 sites-rise b =
     rw (positions-zip (starts (blockCode b) 0) (targets (blockSteps b)) (sited b .all))
-    (rise-below 0 (words (blockCode b)) (length (blockWords b)) (starts (blockCode b) 0) (words-in b) (sited b .rising))
+    (rise-below 0 (words (blockCode b)) (length (blockWords b)) (starts (blockCode b) 0) (omega (arith, words-in b)) (sited b .rising))
 
 module _ (bytes lent : List ℕ) where
   abbrev b : Block

@@ -23,12 +23,13 @@ use Rattle.finish.proofs.Cases.{halves-length}
 use Rattle.finish.proofs.Join.{count-told}
 use Rattle.translation.specs.declared.Needed.{Needed}
 use Rattle.translation.specs.Translation.{toldBehind, translation}
-use Rattle.translation.specs.WordsNeeded.{takes, needTold, needBehind, wordsNeeded, Exact, counted, Included}
+use Rattle.translation.specs.WordsNeeded.{takes, needTold, needBehind, wordsNeeded, Exact, wordsCounted, Included}
 use Rattle.translation.proofs.Faults.{Early, early}
 use Rattle.translation.proofs.Cases.{is-short, does-fit}
+use Rattle.translation.proofs.Promises.{some-words}
 
 -- the instructions meant, the nop and the pool are all the words
-all-counted : (b : Block) → Checked b → length (blockWords b) ≡ counted b
+all-counted : (b : Block) → Checked b → length (blockWords b) ≡ wordsCounted b
 all-counted b ck =
     let pool : List ℕ = poolOf [] (itemsOf b) in
     let pad : List ℕ = padOf (size (itemsOf b)) pool in
@@ -45,7 +46,7 @@ module _ (bytes : List ℕ) where
   exact = by (reading bytes .answer) refl
     where
       by : (a : Answer) → reading bytes .answer ≡ a → Exact (needBehind a b) bytes
-      by NoFault e = λ lent. ((λ l. does-fit bytes lent e l .answer), (λ l. is-short bytes lent e l .answer))
+      by NoFault e = (some-words b, (λ lent. ((λ l. does-fit bytes lent e l .answer), (λ l. is-short bytes lent e l .answer))))
       by (Fault number place) e =
           let l : Early (Fault number place) = subst Early e (early bytes) in ((λ t. absurd (omega arith)), (λ lent. rw e))
 

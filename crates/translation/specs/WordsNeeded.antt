@@ -24,7 +24,7 @@ abbrev pub needTold : Needed → Need
 needTold (Words words) = takes words
 needTold (Refused number place) = refusedWith number place
 
--- ---- "10 left out": the first fault of reading; 10 comes behind all of these and asks for lent words, of which there are none here
+-- ---- "10 left out": the first fault of reading; 10 comes behind all of these, and depends on what is lent
 unfoldable pub needBehind : Answer → Block → Need
 needBehind NoFault b = takes (length (blockWords b))
 needBehind (Fault number place) b = refusedWith number place
@@ -35,18 +35,20 @@ wordsNeeded bytes = needBehind (reading bytes .answer) (reading bytes .block)
 
 -- ---- what is promised of it
 -- "Translation into that many words is accepted; into one fewer it answers 10": it is accepted into more words too, and answers 10 into
--- any fewer, with the record's length as the place. A refusal is not 10, and translation answers it whatever is lent.
+-- any fewer, with the record's length as the place; and one fewer there is. A refusal is not 10, and translation answers it whatever is
+-- lent.
 abbrev pub Exact : Need → (bytes : List ℕ) → Type 0
 Exact (takes words) bytes =
-    (lent : List ℕ)
+    (0 < words)
+    × ((lent : List ℕ)
     → (words ≤ length lent → translation bytes lent ≡ accepted words bodyOffset (sites (reading bytes .block)))
-    × (length lent < words → translation bytes lent ≡ refused 10 (length bytes))
+    × (length lent < words → translation bytes lent ≡ refused 10 (length bytes)))
 Exact (refusedWith number place) bytes = (number ≡ 10 → ⊥) × ((lent : List ℕ) → translation bytes lent ≡ refused number place)
 
 -- the instructions meant, "pool and nop included": a nop where a pool follows an odd number of them, two words for each literal
-abbrev pub counted : Block → ℕ
-counted b = length (meant b) + length (padOf (size (itemsOf b)) (poolOf [] (itemsOf b))) + 2 * length (poolOf [] (itemsOf b))
+abbrev pub wordsCounted : Block → ℕ
+wordsCounted b = length (meant b) + length (padOf (size (itemsOf b)) (poolOf [] (itemsOf b))) + 2 * length (poolOf [] (itemsOf b))
 
 abbrev pub Included : Need → (bytes : List ℕ) → Type 0
-Included (takes words) bytes = words ≡ counted (reading bytes .block)
+Included (takes words) bytes = words ≡ wordsCounted (reading bytes .block)
 Included (refusedWith number place) bytes = Unit {0}

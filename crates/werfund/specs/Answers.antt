@@ -23,11 +23,12 @@ abbrev pub cellsOf : Told → List ℕ
 cellsOf (accepted words body ss) = 0 ∷ words ∷ body ∷ length ss ∷ take 4 (siteCells ss ++ (0 ∷ 0 ∷ 0 ∷ 0 ∷ []))
 cellsOf (refused number place) = place ∷ 0 ∷ 0 ∷ 0 ∷ 0 ∷ 0 ∷ 0 ∷ 0 ∷ []
 
--- of the words that a block takes: the fault's number, from 1 to 9, or 0; and the fault's place and the words, 0 for what there is not
+-- of the words that a block takes: the fault's number, from 1 to 9; 0 where they are counted
 abbrev pub needNumber : Need → ℕ
 needNumber (takes words) = 0
 needNumber (refusedWith number place) = number
 
+-- the fault's place and the words; 0 for what there is not
 abbrev pub needCells : Need → List ℕ
 needCells (takes words) = 0 ∷ words ∷ []
 needCells (refusedWith number place) = place ∷ 0 ∷ []
