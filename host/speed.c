@@ -52,6 +52,7 @@ int main(int argc, char **argv) {
     size_t records, accepted = 0, count = 0, lent;
     long rounds;
     int counts;
+    char *end;
     struct timespec before, behind;
     double ns;
     if (argc < 3) {
@@ -60,10 +61,10 @@ int main(int argc, char **argv) {
     }
     rounds = strtol(argv[1], NULL, 10);
     counts = strcmp(argv[2], "needed") == 0;
-    lent = strtoul(argv[2], NULL, 10);
+    lent = strtoul(argv[2], &end, 10);
     records = read_records();
-    if (rounds < 1 || WORDS < lent || records == 0) {
-        fprintf(stderr, "no rounds, no records, or too many words\n");
+    if (rounds < 1 || (!counts && *end != '\0') || WORDS < lent || records == 0) {
+        fprintf(stderr, "no rounds, no records, or no such number of words\n");
         return 2;
     }
     clock_gettime(CLOCK_MONOTONIC, &before);

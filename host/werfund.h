@@ -22,7 +22,7 @@ extern "C" {
  * no clearing, and the same one may serve the next call. */
 #define WERFUND_TABLE 6152
 
-/* Numbers of an answer. */
+/* Numbers of an answer of werfund_translate. */
 #define WERFUND_ANSWER 8
 
 /* Numbers of an answer of werfund_words_needed. */
@@ -70,10 +70,8 @@ uint32_t werfund_translate(const uint8_t *record, size_t record_bytes, uint32_t 
  * it answers 10. Answers 0, or the fault's number, 1 to 9, with which werfund_translate refuses the record whatever is lent. `answer` gets as many
  * of these two as it has room for, and its other cells are untouched:
  *
- *     0  the fault's place, an offset in the record
- *     1  the number of words
- *
- * What there is not is 0.
+ *     0  the fault's place, an offset in the record; 0 where the words are counted
+ *     1  the number of words; 0 where the record is refused
  */
 uint32_t werfund_words_needed(const uint8_t *record, size_t record_bytes, uint64_t *table, uint64_t *answer, size_t answer_cells);
 
@@ -149,7 +147,8 @@ static inline uint32_t werfund_translate_checked(const uint8_t *record, size_t r
 }
 
 /* How many words a record's block takes, so that the code space can be reserved before it is translated: lent that many words or more,
- * werfund_translate_checked accepts it. Answers 0, the fault's number, 1 to 9, or WERFUND_MISUSE, as werfund_translate_checked does. */
+ * werfund_translate_checked accepts it. Answers 0, the fault's number, 1 to 9, or WERFUND_MISUSE: a table or an answer that is null, a null record
+ * with a length, a pointer that is not aligned, or two of record, table and answer that overlap. */
 static inline uint32_t werfund_words_needed_checked(const uint8_t *record, size_t record_bytes, uint64_t *table, werfund_need *need) {
     uint8_t no_record = 0;
     uint64_t cells[WERFUND_NEED];

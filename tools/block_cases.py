@@ -37,13 +37,24 @@ def public(path):
     return found
 
 
-def answered(oracle, lent, records):
-    """The same of records that the oracle answers."""
+def asked(oracle, options, records):
+    """What the oracle prints of records."""
     lines = "".join(r.hex() + "\n" for r in records)
-    out = subprocess.run([oracle, "--hex", "--lent", str(lent)], input=lines, capture_output=True, text=True, check=True).stdout
-    listings = out.split(".\n")[:-1]
+    return subprocess.run([oracle] + options, input=lines, capture_output=True, text=True, check=True).stdout
+
+
+def answered(oracle, lent, records):
+    """Lent words, record and listing of records that the oracle answers."""
+    listings = asked(oracle, ["--hex", "--lent", str(lent)], records).split(".\n")[:-1]
     assert len(listings) == len(records)
     return [(lent, r, [l.split() for l in text.splitlines()]) for r, text in zip(records, listings)]
+
+
+def needs(oracle, records):
+    """Of each record, whatever is lent: the fault's number and place, and the words that the block takes."""
+    answers = [line.split() for line in asked(oracle, ["--sizes"], records).splitlines()]
+    assert len(answers) == len(records)
+    return [(int(a[1]), int(a[2]), 0) if a[0] == "refused" else (0, 0, int(a[0])) for a in answers]
 
 
 def pieces(path, size=1000):
@@ -61,15 +72,6 @@ def edge(oracle, records):
                 yield from answered(oracle, lent, [record])
 
 
-def needs(oracle, records):
-    """Of each record, whatever is lent: the fault's number and place, and the words that the block takes."""
-    lines = "".join(r.hex() + "\n" for r in records)
-    out = subprocess.run([oracle, "--sizes"], input=lines, capture_output=True, text=True, check=True).stdout
-    answers = [line.split() for line in out.splitlines()]
-    assert len(answers) == len(records)
-    return [(int(a[1]), int(a[2]), 0) if a[0] == "refused" else (0, 0, int(a[0])) for a in answers]
-
-
 def case(lent, record, listing, need):
     """A case's bytes."""
     head = listing[0]
@@ -83,6 +85,10 @@ def case(lent, record, listing, need):
         words = [int(w, 16) for line in listing[1:] if line[0] != "site" for w in line]
         sites = [(int(line[1]), int(line[2], 16)) for line in listing if line[0] == "site"]
         assert len(words) == int(head[1]) and len(sites) <= 2
+    if fault[0] == 10:
+        assert need[:2] == (0, 0) and lent < need[2]
+    else:
+        assert need == (*fault, len(words))
     two = [n for site in (sites + [(0, 0)] * 2)[:2] for n in site]
     rest = struct.pack("<14I", lent, *fault, len(words), body, len(sites), *two, *need, len(record))
     rest += record + struct.pack(f"<{len(words)}I", *words)

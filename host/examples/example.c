@@ -28,7 +28,7 @@ static int refused(uint32_t fault, size_t place) {
 
 /* The block in `words` words of code space, its copy in as many behind them, and the first linked with the second. */
 static int build(uint32_t *code, size_t words) {
-    werfund_answer block;
+    werfund_answer block = {0};
     uint32_t fault, branch;
     fault = werfund_translate_checked(record, sizeof record, code, words, table, &block);
     if (fault != WERFUND_ACCEPTED) {
@@ -52,7 +52,7 @@ static int build(uint32_t *code, size_t words) {
 }
 
 int main(void) {
-    werfund_need need;
+    werfund_need need = {0};
     uint32_t fault, *code;
     int status;
     fault = werfund_words_needed_checked(record, sizeof record, table, &need);

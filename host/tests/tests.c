@@ -1,5 +1,5 @@
 /* The host's side in C: every case of a file through werfund_translate_checked and werfund_words_needed_checked, compared with its frozen answers;
- * each once more with exactly the words that it needs, and with one fewer; and what a caller may get wrong.
+ * each that needs words twice more, with exactly these lent and with one fewer; and what a caller may get wrong.
  *
  *     tests CASES [COUNT]
  *
@@ -118,22 +118,25 @@ static int same_need(const frozen *c, uint64_t *table) {
     return fault == c->n[NEED_FAULT] && need.place == c->n[NEED_PLACE] && need.words == c->n[NEED_WORDS];
 }
 
-/* Whether a block is accepted where exactly the words that it needs are lent, and answered 10 where one fewer is. */
+/* Whether a block is accepted where exactly the words that it needs are lent, and answered 10 where one fewer is: the same case, lent otherwise. */
 static int exact(const frozen *c, uint64_t *table) {
-    uint32_t needed = c->n[NEED_WORDS];
-    uint32_t *words = lend(needed);
+    frozen fewer = *c;
+    uint32_t *words = lend(c->n[NEED_WORDS]);
+    uint8_t *record = room(c->n[LENGTH]);
     werfund_answer a;
-    int enough, fewer;
-    enough = werfund_translate_checked(c->record, c->n[LENGTH], words, needed, table, &a) == WERFUND_ACCEPTED && a.words == needed;
+    int enough;
+    memcpy(record, c->record, c->n[LENGTH]);
+    enough = werfund_translate_checked(record, c->n[LENGTH], words, c->n[NEED_WORDS], table, &a) == WERFUND_ACCEPTED && a.words == c->n[NEED_WORDS];
     for (size_t i = 0; enough && i < c->n[WORDS]; i++) {
         enough = words[i] == number(c->words + 4 * i);
     }
+    free(record);
     free(words);
-    words = lend(needed - 1);
-    fewer = werfund_translate_checked(c->record, c->n[LENGTH], words, needed - 1, table, &a) == WERFUND_ROOM && a.place == c->n[LENGTH];
-    fewer = fewer && all(words, 0, needed - 1, 0);
-    free(words);
-    return enough && fewer;
+    memset(fewer.n, 0, sizeof fewer.n);
+    fewer.n[LENT] = c->n[NEED_WORDS] - 1;
+    fewer.n[FAULT] = WERFUND_ROOM;
+    fewer.n[PLACE] = fewer.n[LENGTH] = c->n[LENGTH];
+    return enough && same(&fewer, table);
 }
 
 static void cases(const char *path, unsigned long count) {
@@ -150,8 +153,8 @@ static void cases(const char *path, unsigned long count) {
         cases++;
         refused += c.n[FAULT] != 0;
         words += c.n[WORDS];
-        different += !same(&c, table) || !same_need(&c, table);
-        if (c.n[NEED_WORDS] != 0) {
+        different += !same_need(&c, table) || !same(&c, table); /* the count first: the table is as the case before left it */
+        if (c.n[FAULT] == WERFUND_ACCEPTED || c.n[FAULT] == WERFUND_ROOM) {
             needs++;
             inexact += !exact(&c, table);
         }
@@ -199,9 +202,9 @@ static int counts(const uint8_t *record, size_t bytes, uint32_t fault, size_t pl
 static void needs(void) {
     check(counts(empty_block, 77, WERFUND_ACCEPTED, 0, 35), "35 words are needed");
     check(counts(nop_block, 83, WERFUND_ACCEPTED, 0, 37), "a Nop's block at 02000800 needs 37");
-    check(counts(empty_block, 76, WERFUND_CUT, 70, 0), "a cut record is fault 1 at 70");
-    check(counts(empty_block, 0, WERFUND_CUT, 0, 0), "an empty record is fault 1 at 0");
-    check(counts(NULL, 0, WERFUND_CUT, 0, 0), "so is one at null");
+    check(counts(empty_block, 76, WERFUND_CUT, 70, 0), "a cut record is fault 1 at 70, counted");
+    check(counts(empty_block, 0, WERFUND_CUT, 0, 0), "an empty record is fault 1 at 0, counted");
+    check(counts(NULL, 0, WERFUND_CUT, 0, 0), "an empty record at null is fault 1 at 0, counted");
 }
 
 static void lengths(void) {
@@ -219,14 +222,27 @@ static void lengths(void) {
     }
 }
 
-/* Whether a call answers WERFUND_MISUSE, and leaves words and answer as they were. */
-static int misused(const uint8_t *record, size_t bytes, uint32_t *words, size_t lent, uint64_t *tab, werfund_answer *a) {
-    werfund_answer before;
-    memset(&before, 0x77, sizeof before);
-    if (a != NULL) {
-        *a = before;
+/* Marks memory before a call, and sees whether the marks are there still. */
+static void mark(void *p, size_t bytes) {
+    if (p != NULL) {
+        memset(p, 0x77, bytes);
     }
-    return werfund_translate_checked(record, bytes, words, lent, tab, a) == WERFUND_MISUSE && (a == NULL || memcmp(a, &before, sizeof before) == 0);
+}
+
+static int marked(const void *p, size_t bytes) {
+    const uint8_t *at = p;
+    for (size_t i = 0; p != NULL && i < bytes; i++) {
+        if (at[i] != 0x77) {
+            return 0;
+        }
+    }
+    return 1;
+}
+
+/* Whether a call answers WERFUND_MISUSE, and leaves its answer as it was. */
+static int misused(const uint8_t *record, size_t bytes, uint32_t *words, size_t lent, uint64_t *tab, werfund_answer *a) {
+    mark(a, sizeof *a);
+    return werfund_translate_checked(record, bytes, words, lent, tab, a) == WERFUND_MISUSE && marked(a, sizeof *a);
 }
 
 static void misuse(void) {
@@ -251,23 +267,20 @@ static void misuse(void) {
     free(words);
 }
 
-/* Whether a count answers WERFUND_MISUSE, and leaves its answer as it was. */
+/* The same of a count. */
 static int miscounted(const uint8_t *record, size_t bytes, uint64_t *tab, werfund_need *need) {
-    werfund_need before;
-    memset(&before, 0x77, sizeof before);
-    if (need != NULL) {
-        *need = before;
-    }
-    return werfund_words_needed_checked(record, bytes, tab, need) == WERFUND_MISUSE && (need == NULL || memcmp(need, &before, sizeof before) == 0);
+    mark(need, sizeof *need);
+    return werfund_words_needed_checked(record, bytes, tab, need) == WERFUND_MISUSE && marked(need, sizeof *need);
 }
 
 static void need_misuse(void) {
     uint8_t *bytes = (uint8_t *)table;
-    werfund_need need;
+    werfund_need need, two[2];
     check(miscounted(NULL, 1, table, &need), "a null record with a length, counted");
     check(miscounted(empty_block, 77, NULL, &need), "a null table, counted");
     check(miscounted(empty_block, 77, table, NULL), "a null answer, counted");
     check(miscounted(empty_block, 77, (uint64_t *)(void *)(bytes + 4), &need), "a table that is not aligned, counted");
+    check(miscounted(empty_block, 77, table, (werfund_need *)(void *)((uint8_t *)two + 4)), "an answer that is not aligned, counted");
     check(miscounted(empty_block, (size_t)-1, table, &need), "a record longer than memory, counted");
     check(miscounted(bytes + 8 * WERFUND_TABLE - 1, 2, table, &need), "a table that ends in the record, counted");
     check(miscounted((uint8_t *)&need, 1, table, &need), "a record in the answer, counted");

@@ -1,5 +1,5 @@
-//! The host's side in Rust: every case of a file through the wrapper, compared with its frozen answers; each once more with exactly the words that it
-//! needs, and with one fewer; and the boundary.
+//! The host's side in Rust: every case of a file through the wrapper, compared with its frozen answers; each that needs words twice more, with exactly
+//! these lent and with one fewer; and the boundary.
 //!
 //!     tests CASES [COUNT]
 //!
@@ -27,6 +27,10 @@ impl Checks {
     }
 }
 
+fn fault(number: u32, place: usize) -> Fault {
+    Fault { number, place }
+}
+
 /// Numbers of 32 bits, little-endian.
 fn numbers(bytes: &[u8]) -> Vec<u32> {
     bytes
@@ -49,10 +53,6 @@ fn next(bytes: &[u8]) -> (Case, &[u8]) {
     let (case, behind) = bytes[4..].split_at(numbers(&bytes[..4])[0] as usize);
     let n = numbers(&case[..56]);
     let (record, words) = case[56..].split_at(n[13] as usize);
-    let fault = |number, place| Fault {
-        number,
-        place: place as usize,
-    };
     let answer = match n[1] {
         0 => {
             let both = [
@@ -67,11 +67,11 @@ fn next(bytes: &[u8]) -> (Case, &[u8]) {
             ];
             Ok((n[3] as usize, n[4] as usize, both[..n[5] as usize].to_vec()))
         }
-        number => Err(fault(number, n[2])),
+        number => Err(fault(number, n[2] as usize)),
     };
     let need = match n[10] {
         0 => Ok(n[12] as usize),
-        number => Err(fault(number, n[11])),
+        number => Err(fault(number, n[11] as usize)),
     };
     (
         Case {
@@ -107,13 +107,10 @@ fn exact(c: &Case, needed: usize, translator: &mut Translator) -> bool {
         .translate(&c.record, &mut words)
         .is_ok_and(|block| block.words == needed)
         && words.starts_with(&c.words);
-    let ten = Fault {
-        number: 10,
-        place: c.record.len(),
-    };
     words.fill(BEFORE);
-    let short = translator.translate(&c.record, &mut words[1..]) == Err(ten);
-    accepted && short && words[0] == BEFORE && words[1..].iter().all(|w| *w == 0)
+    let ten = Err(fault(10, c.record.len()));
+    let refused = translator.translate(&c.record, &mut words[1..]) == ten;
+    accepted && refused && words[0] == BEFORE && words[1..].iter().all(|w| *w == 0)
 }
 
 fn cases(path: &str, count: usize, checks: &mut Checks) {
@@ -130,9 +127,12 @@ fn cases(path: &str, count: usize, checks: &mut Checks) {
         words += case.words.len();
         let need = translator.words_needed(&case.record);
         different += !(same(&case, &mut translator) && need == case.need) as usize;
-        if let Ok(needed) = case.need {
+        if matches!(case.answer, Ok(_) | Err(Fault { number: 10, .. })) {
             needs += 1;
-            inexact += !exact(&case, needed, &mut translator) as usize;
+            let holds = case
+                .need
+                .is_ok_and(|needed| exact(&case, needed, &mut translator));
+            inexact += !holds as usize;
         }
     }
     println!("cases {cases}\nrefused {refused}\nwords {words}\ndifferent {different}");
@@ -166,20 +166,18 @@ fn block(address: u32, nops: usize) -> Vec<u8> {
 fn boundary(checks: &mut Checks) {
     let record = block(0x02000000, 0);
     let mut translator = Translator::new();
-    let fault = |number, place| Err(Fault { number, place });
-
     let mut words = [BEFORE; 3];
     checks.check(
-        translator.translate(&[], &mut words) == fault(1, 0),
+        translator.translate(&[], &mut words) == Err(fault(1, 0)),
         "an empty record is fault 1 at 0",
     );
     checks.check(words == [0; 3], "and its lent words are 0");
     checks.check(
-        translator.translate(&record, &mut []) == fault(10, 77),
+        translator.translate(&record, &mut []) == Err(fault(10, 77)),
         "no words are fault 10 at 77",
     );
     checks.check(
-        translator.translate(&[], &mut []) == fault(1, 0),
+        translator.translate(&[], &mut []) == Err(fault(1, 0)),
         "nothing at all is fault 1 at 0",
     );
 
@@ -188,20 +186,12 @@ fn boundary(checks: &mut Checks) {
         "35 words are needed",
     );
     checks.check(
-        translator.words_needed(&record[..76])
-            == Err(Fault {
-                number: 1,
-                place: 70,
-            }),
-        "a cut record is fault 1 at 70",
+        translator.words_needed(&record[..76]) == Err(fault(1, 70)),
+        "a cut record is fault 1 at 70, counted",
     );
     checks.check(
-        translator.words_needed(&[])
-            == Err(Fault {
-                number: 1,
-                place: 0,
-            }),
-        "an empty record is fault 1 at 0",
+        translator.words_needed(&[]) == Err(fault(1, 0)),
+        "an empty record is fault 1 at 0, counted",
     );
 
     for lent in 34..=36 {
