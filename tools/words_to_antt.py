@@ -4,8 +4,10 @@
 
 RECORDS is a file of records in the format of the oracle's vectors: a case begins with `> name words-lent record` (hexadecimal), and the
 lines up to the next `>` are its listing. OUT is the `proofs` folder of a crate that depends on record, lowering, code, block and arm; it
-gets `Words.antt` and `Lib.antt`. For each accepted record, of at most WORDS words, two equations say that the definitions give these
-very words and these very sites (by position). Each holds by computation, so that `rt check` of the crate compares every word.
+gets `Words.antt` and `Lib.antt`. For each accepted record, of at most WORDS words, four equations say that the definitions give these
+very words and these very sites (by position), that the patches are where a word of the listing before the pool has a distance, by its opcode, and that
+behind half of them the words are the listing's with the distances of the others 0. Each holds by computation, so that `rt check` of the crate
+compares every word.
 """
 import argparse
 import os
@@ -21,9 +23,23 @@ UNFOLDED = {
     "lowering.specs.Steps": "lowered opSteps opsSteps blockSteps",
     "code.specs.Items": "index add halves padOf baseOf",
     "code.specs.Tree": "words lines instrs wholeLines poolIn findIn linesWords",
+    "code.specs.Walk": "linesAt patchesOf unpatchedWords patchedIn walkedWords",
 }
 
-HEAD = """-- Each record gives these words and these sites, by computation.
+# The common exit, behind which the pool begins.
+CLOSING = "a94573fb a9446bf9 a94363f7 a9425bf5 a94153f3 a8c67bfd d65f03c0".split()
+
+# The instructions with a distance by the Arm manual: mask, opcode, and the bits of the distance.
+DISTANCES = (
+    (0xFC000000, 0x14000000, 0x03FFFFFF),  # B
+    (0xFF000010, 0x54000000, 0x00FFFFE0),  # B.cond
+    (0x7E000000, 0x34000000, 0x00FFFFE0),  # CBZ, CBNZ
+    (0x7E000000, 0x36000000, 0x0007FFE0),  # TBZ, TBNZ
+    (0x9F000000, 0x10000000, 0x60FFFFE0),  # ADR
+    (0xFF000000, 0x58000000, 0x00FFFFE0),  # LDR (literal)
+)
+
+HEAD = """-- Each record gives these words, these sites and this walk over the patches, by computation.
 use mathlib.Core.Path.{_≡_, refl}
 use mathlib.Core.List.{List, [], _∷_}
 use Prim.Native.Nat.{ℕ, zero, suc, _/_, _%_, _^_}
@@ -58,6 +74,18 @@ def cases(path):
             yield name, record, words, sites
 
 
+def patches(words):
+    """The positions of the words with a distance, each with its word without the distance."""
+    (end,) = [i for i in range(len(words)) if words[i : i + len(CLOSING)] == CLOSING]
+    found = {}
+    for i, word in enumerate(words[:end]):
+        w = int(word, 16)
+        for mask, opcode, distance in DISTANCES:
+            if w & mask == opcode:
+                found[i] = f"{w & ~distance:08x}"
+    return found
+
+
 def listed(items):
     return "".join(f"{i} ∷ " for i in items) + "[]"
 
@@ -66,6 +94,9 @@ def equations(n, case):
     name, record, words, sites = case
     unfolding = "unfolding " + " ".join(UNFOLDED.values())
     block = f"(reading (hex {len(record) // 2} 0x{record}) .block)"
+    found = patches(words)
+    half = len(found) // 2
+    walked = [found[i] if i in list(found)[half:] else w for i, w in enumerate(words)]
     return f"""
 -- {name}
 words{n} : blockWords {block} ≡ {listed("0x" + w for w in words)}
@@ -75,6 +106,14 @@ words{n} = refl
 sites{n} : sites {block} ≡ {listed(f"site {p} 0x{t}" for p, t in sites)}
 {unfolding}
 sites{n} = refl
+
+patches{n} : patchesOf (blockLines {block}) ≡ {listed(found)}
+{unfolding}
+patches{n} = refl
+
+walked{n} : walkedWords {half} (blockLines {block}) ≡ {listed("0x" + w for w in walked)}
+{unfolding}
+walked{n} = refl
 """
 
 
@@ -90,7 +129,7 @@ def main():
         f.write(HEAD + uses + HEX + "".join(equations(n, c) for n, c in enumerate(taken)))
     with open(os.path.join(a.out, "Lib.antt"), "w") as f:
         f.write("pub mod Words\n")
-    print(f"{len(taken)} records, {sum(len(c[2]) for c in taken)} words")
+    print(f"{len(taken)} records, {sum(len(c[2]) for c in taken)} words, {sum(len(patches(c[2])) for c in taken)} patches")
 
 
 main()

@@ -23,7 +23,7 @@ use Rattle.block.specs.declared.Fast.the-variants.{Nop, MovI, Mov, AddRI, ShlI,
 use Rattle.block.specs.declared.BOp.{BOp}
 use Rattle.block.specs.declared.Block.{Block}
 use Rattle.block.specs.Block.{opsOf, mayJump, usesBus}
-use Rattle.code.specs.Items.{pick}
+use Rattle.code.specs.Items.{pick, Rise}
 use Rattle.code.specs.Tree.{Depth, top, under, Code, code, lit, to, exit, block, start, _then_, words}
 use Rattle.lowering.specs.declared.RegCache.{RegCache}
 use Rattle.lowering.specs.Instrs.{NE, EQ, sbfx, ubfx, tst}
@@ -31,7 +31,7 @@ use Rattle.lowering.specs.Cache.{emptyCache}
 use Rattle.lowering.specs.Steps.{Step, lowered, behind, opSteps, opsSteps, blockSteps, rhs, base, un, div, low, rmwValue}
 use Rattle.lowering.specs.Fragments.{brkFirst, tryRegion, oddTest, mapTest, call, exitImm, chain, ind, checkBrk, fork, limit, load, store, stepCode, stepCache, stepsCode, opening}
 use Rattle.lowering.specs.Compile.{blockCode, starts, targets}
-use Rattle.bounds.specs.Whole.{Rise, Sited}
+use Rattle.bounds.specs.Whole.{Sited}
 
 -- ---- positions
 rise-append : (p q r : ℕ) (xs ys : List ℕ) → Rise p q xs → Rise q r ys → Rise p r (xs ++ ys)

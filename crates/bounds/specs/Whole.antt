@@ -2,12 +2,12 @@
 -- reaches its label.
 use mathlib.Core.Path.{_≡_}
 use mathlib.Core.List.{List, [], _∷_, _++_, map}
-use Prim.Native.Nat.{ℕ, suc, _+_, _*_, _^_, _<_, _≤_}
+use Prim.Native.Nat.{ℕ, _+_, _*_, _^_, _<_, _≤_}
 use lib.ListN.{length}
 use Rattle.arm.specs.declared.Instr.{Instr}
 use Rattle.arm.specs.Instr.{encode}
 use Rattle.block.specs.declared.Block.{Block}
-use Rattle.code.specs.Items.{Item, Sound, Once, Met, Reach, placesOf, resolve, padOf, poolOf, halves, size}
+use Rattle.code.specs.Items.{Item, Sound, Once, Met, Reach, Rise, placesOf, resolve, padOf, poolOf, halves, size}
 use Rattle.code.specs.Tree.{top, Code, nowhere, words, labels, jumps, wholeItems, wholeLines, poolIn, Tests, Fine}
 use Rattle.lowering.specs.Fragments.{closing}
 use Rattle.lowering.specs.Steps.{blockSteps}
@@ -43,11 +43,6 @@ pub record Emitted (blk : Block) : Type 0 where
   pub reach : Reach (placesOf (itemsOf blk)) 0 (itemsOf blk)
   pub carried : Sound (meant blk)
   pub words : blockWords blk ≡ map encode (meant blk) ++ (padOf (size (itemsOf blk)) (poolOf [] (itemsOf blk)) ++ halves (poolOf [] (itemsOf blk)))
-
--- from p on, each behind the one before, below q
-abbrev pub Rise : (p q : ℕ) → List ℕ → Type 0
-Rise p q [] = p ≤ q
-Rise p q (x ∷ xs) = (p ≤ x) × Rise (suc x) q xs
 
 -- "each site is listed once": the sites' positions rise, and each has its target. "A block has at most two sites."
 pub record Sited (blk : Block) : Type 0 where

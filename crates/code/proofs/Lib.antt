@@ -6,3 +6,4 @@ pub mod Reach
 pub mod Order
 pub mod Fetch
 pub mod Lent
+pub mod Walk

@@ -1,6 +1,6 @@
 -- What the assembler does: words, a table of label positions, fix-ups, a pool, and the patches at the end.
 use mathlib.Core.Bool.{Bool, true, false}
-use mathlib.Core.List.{List, [], _∷_, _++_}
+use mathlib.Core.List.{List, [], _∷_, _++_, map}
 use Prim.Native.Nat.{ℕ, zero, suc, _+_, _-_, _*_, _/_, _%_, _^_, _<_, _≤_}
 use lib.IntN.{ℤ, pos, negsuc}
 use lib.ListN.{length, getD, set}
@@ -84,16 +84,24 @@ patchAll to [] ws = ws
 patchAll to (f ∷ fs) ws = patchAll to fs (patched to f ws)
 
 -- the pool behind the words, then the patches
-unfoldable pub finish : St → List ℕ
-finish s =
-    patchAll (lead (s .labels) (baseOf (length (s .words)) (s .pool))) (s .fixes)
-    (s .words ++ (padOf (length (s .words)) (s .pool) ++ halves (s .pool)))
+abbrev pub pooledWords : St → List ℕ
+pooledWords s = s .words ++ (padOf (length (s .words)) (s .pool) ++ halves (s .pool))
 
+abbrev pub leads : St → Goal → ℕ
+leads s = lead (s .labels) (baseOf (length (s .words)) (s .pool))
+
+unfoldable pub finish : St → List ℕ
+finish s = patchAll (leads s) (s .fixes) (pooledWords s)
+
+-- where the fix-ups' words are
+abbrev pub fixesAt : List Fixup → List ℕ
+fixesAt fs = map (λ (f : Fixup). f .at) fs
+
+-- ---- the Rust's order: "patches the literal references first and the branch distances second"
 abbrev pub pickGoal : {A : Type 0} → Goal → A → A → A
 pickGoal (toLabel l) a c = a
 pickGoal (toEntry i) a c = c
 
--- ---- the order of the patches: the Rust does the pool's first, then the labels'
 unfoldable pub entriesOf : List Fixup → List Fixup
 entriesOf [] = []
 entriesOf (f ∷ fs) = pickGoal (f .goal) (entriesOf fs) (f ∷ entriesOf fs)
@@ -102,10 +110,8 @@ unfoldable pub branchesOf : List Fixup → List Fixup
 branchesOf [] = []
 branchesOf (f ∷ fs) = pickGoal (f .goal) (f ∷ branchesOf fs) (branchesOf fs)
 
--- positions rise, from p on
-unfoldable pub Rising : ℕ → List Fixup → Type 0
-Rising p [] = Unit {0}
-Rising p (f ∷ fs) = (p ≤ f .at) × Rising (suc (f .at)) fs
+unfoldable pub finishTwice : St → List ℕ
+finishTwice s = patchAll (leads s) (branchesOf (s .fixes)) (patchAll (leads s) (entriesOf (s .fixes)) (pooledWords s))
 
 -- ---- lent room: the first elements are written, those behind stay; what does not fit is not written
 abbrev pub lay : {A : Type 0} → List A → List A → List A

@@ -2,7 +2,7 @@
 use mathlib.Core.Path.{_≡_}
 use mathlib.Core.Bool.{Bool, true, false}
 use mathlib.Core.List.{List, [], _∷_, _++_, map}
-use Prim.Native.Nat.{ℕ, zero, suc, _+_, _-_, _*_, _/_, _%_, _^_, _<_}
+use Prim.Native.Nat.{ℕ, zero, suc, _+_, _-_, _*_, _/_, _%_, _^_, _<_, _≤_}
 use lib.Dec.{eqb}
 use lib.IntN.{ℤ, pos, negsuc, subℕ}
 use lib.ListN.{length}
@@ -186,6 +186,11 @@ Reach at p (ins i ∷ is) = Reach at (suc p) is
 Reach at p (go h t ∷ is) = Within (reachOf h) (dist (at t) p) × Reach at (suc p) is
 Reach at p (new ∷ is) = Reach at p is
 Reach at p (bind l ∷ is) = Reach at p is
+
+-- ---- positions: from p on, each behind the one before, below q
+abbrev pub Rise : (p q : ℕ) → List ℕ → Type 0
+Rise p q [] = p ≤ q
+Rise p q (x ∷ xs) = (p ≤ x) × Rise (suc x) q xs
 
 -- each instruction is one that a word carries
 unfoldable pub Sound : List Instr → Type 0

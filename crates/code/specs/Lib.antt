@@ -3,3 +3,4 @@ pub mod Emit
 pub mod Tree
 pub mod Machine
 pub mod Lent
+pub mod Walk

@@ -9,13 +9,14 @@ use Rattle.block.specs.Block.{opsOf}
 use Rattle.block.specs.Checked.{Checked}
 use Rattle.code.specs.Items.{new, bind}
 use Rattle.code.specs.Tree.{top, Code, code, _then_, nowhere}
+use Rattle.code.specs.Walk.{walkedWords}
 use Rattle.lowering.specs.Cache.{emptyCache}
 use Rattle.lowering.specs.Fragments.{stepsCode, opening, closing}
 use Rattle.lowering.specs.Steps.{Step, opsSteps, blockSteps}
-use Rattle.lowering.specs.Compile.{blockCode, blockWords, starts, targets}
+use Rattle.lowering.specs.Compile.{blockCode, blockLines, blockWords, starts, targets}
 use Rattle.asm.specs.declared.Asm.{Asm}
 use Rattle.asm.specs.declared.Made.{Made}
-use Rattle.asm.specs.State.{tableRoom, State, state, begin, made, put}
+use Rattle.asm.specs.State.{fixupRoom, tableRoom, State, state, begin, made, put}
 use Rattle.asm.proofs.Laws.{new-put}
 use Rattle.emission.specs.Total.{emitted, afterT, startsT}
 use Rattle.emission.proofs.After.{code-after, then-after, then-starts}
@@ -23,7 +24,7 @@ use Rattle.bounds.specs.Whole.{Sited}
 use Rattle.bounds.proofs.Sites.{sited}
 use Rattle.finish.specs.Finish.{finished, finishedWords}
 use Rattle.finish.specs.Whole.{laid, told}
-use Rattle.whole.proofs.Whole.{whole-words, whole-told, whole-starts}
+use Rattle.whole.proofs.Whole.{walked-all, whole-walked, whole-told, whole-starts}
 use Rattle.lower.specs.declared.Lowered.{Lowered}
 use Rattle.lower.specs.Lowers.{atsOf, targetsOf, kept, Lowers}
 use Rattle.lower.proofs.Laws.{then-lowers}
@@ -77,8 +78,8 @@ module _ (blk : Block) (lent tab ws t ws₁ t₁ ws₂ t₂ : List ℕ) (m : Mad
 
 -- ---- `compile`
 module _ (blk : Block) (ck : Checked blk) (lent tab ws t : List ℕ) (full : length tab ≡ tableRoom) (r : Lowered) (h : Emits blk lent tab ws t r) where
-  pub words-are : finishedWords (state ws t (r .a)) ≡ laid (blockWords blk) lent
-  words-are = whole-words blk ck lent tab _ refl full _ _ (state ws t (r .a)) refl refl (h .code)
+  pub walked-are : (n : ℕ) → finishedWords n (state ws t (r .a)) ≡ laid (walkedWords n (blockLines blk)) lent
+  walked-are n = whole-walked blk ck lent tab _ refl full _ _ (state ws t (r .a)) refl refl (h .code) n
 
   pub told-is : finished (state ws t (r .a)) ≡ told (blockWords blk) lent
   told-is = whole-told blk ck lent tab _ refl full _ _ (state ws t (r .a)) refl refl (h .code)
@@ -88,3 +89,7 @@ module _ (blk : Block) (ck : Checked blk) (lent tab ws t : List ℕ) (full : len
 
   pub targets-are : targetsOf (r .sites) ≡ targets (blockSteps blk)
   targets-are = h .targets ∙ kept-few (targets (blockSteps blk)) (sited blk .two)
+
+-- a walk of as many patches as the table holds is the whole walk
+pub all-are : (blk : Block) (ck : Checked blk) (lent : List ℕ) → laid (walkedWords fixupRoom (blockLines blk)) lent ≡ laid (blockWords blk) lent
+all-are blk ck lent = ap (λ ws. laid ws lent) (walked-all blk ck)

@@ -5,8 +5,9 @@ ghost use lib.ListN.{length};
 ghost use Rattle.block.specs.Checked.{Checked};
 ghost use Rattle.code.specs.Items.{ins as insItem, new as newItem, bind as bindItem};
 ghost use Rattle.code.specs.Tree.{nowhere};
+ghost use Rattle.code.specs.Walk.{walkedWords, OneWalk};
 ghost use Rattle.lowering.specs.Cache.{emptyCache};
-ghost use Rattle.lowering.specs.Compile.{blockCode, blockWords, starts, targets};
+ghost use Rattle.lowering.specs.Compile.{blockCode, blockLines, blockWords, starts, targets};
 ghost use Rattle.lowering.specs.Steps.{blockSteps};
 ghost use Rattle.asm.specs.State.{tableRoom};
 ghost use Rattle.finish.specs.Whole.{laid, told};
@@ -71,13 +72,21 @@ fn sized(tab: &[u64; 6152])
     let whole: &[u64] = tab;
 }
 
-// The words of a checked block in the lent slice, or zeros where they do not fit. The table is working space: what it holds does not matter.
-pub fn compile(out: &mut [u32], tab: &mut [u64; 6152], b: Block) -> Compiled
-    ensures { λ r. ⌜ (Checked b → (r .finished ≡ told (blockWords b) (now (out .entry))) × (now (out .exit) ≡ laid (blockWords b) (now (out .entry))) × (atsOf (r .sites) ≡ starts (blockCode b) 0) × (targetsOf (r .sites) ≡ targets (blockSteps b))) ⌝ }
+// `compile`, stopped behind `upto` patches: the words up to the last of these are final, those behind it as before the walk, distances 0.
+pub fn compile_to(out: &mut [u32], tab: &mut [u64; 6152], b: Block, upto: u32) -> Compiled
+    ensures { λ r. ⌜ (Checked b → (r .finished ≡ told (blockWords b) (now (out .entry))) × (now (out .exit) ≡ laid (walkedWords upto (blockLines b)) (now (out .entry))) × (atsOf (r .sites) ≡ starts (blockCode b) 0) × (targetsOf (r .sites) ≡ targets (blockSteps b))) ⌝ }
+    ensures { λ r. ⌜ OneWalk (blockLines b) ⌝ }
 {
     sized(tab);
     let q = emit(out, tab, b);
     let sites = q.sites;
-    let finished = finish::finish(out, tab, q.a);
+    let finished = finish::finish(out, tab, q.a, upto);
     Compiled { finished, sites }
+}
+
+// The words of a checked block in the lent slice, or zeros where they do not fit. The table is working space: what it holds does not matter.
+pub fn compile(out: &mut [u32], tab: &mut [u64; 6152], b: Block) -> Compiled
+    ensures { λ r. ⌜ (Checked b → (r .finished ≡ told (blockWords b) (now (out .entry))) × (now (out .exit) ≡ laid (blockWords b) (now (out .entry))) × (atsOf (r .sites) ≡ starts (blockCode b) 0) × (targetsOf (r .sites) ≡ targets (blockSteps b))) ⌝ }
+{
+    compile_to(out, tab, b, asm::FIXUPS)
 }

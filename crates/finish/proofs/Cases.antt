@@ -12,7 +12,7 @@ use lib.ListN.{length, getD, set, replicate, drop, drop-of-length-le, length-set
 use borrow.Author.Tests.{lt-ltb, le-ltb, ltb-true, ltb-false, ne-eqb}
 use Rattle.code.specs.Items.{dist, bytes, halves, padOf, baseOf}
 use Rattle.asm.specs.State.{labelRoom, fixupRoom, literalsAt, fixupsAt, State, atMost, kept, held, literalsFrom}
-use Rattle.finish.specs.Finish.{fieldOf, patchIn, fixOf, leadIn, patchedWith, patchedAt, patchedTo, write, zeros, written, needed, finished, finishedWords}
+use Rattle.finish.specs.Finish.{fieldOf, patchIn, fixOf, leadIn, patchedWith, patchedAt, patchedTo, write, zeros, written, needed, laidOut, finished, finishedWords}
 use Rattle.finish.specs.declared.Finished.the-variants.{Words, Short}
 
 -- ---- the field of each kind
@@ -163,7 +163,7 @@ module _ (s : State) (k n base : ℕ) (ws₁ ws₂ : List ℕ) (h : Pooled s k n
   unfolding needed
   needed-is = ap₂ (λ (x y : ℕ). x + 2 * y) base-held (h .count)
 
-  words-are : ws₂ ≡ write (written s) (padOf (written s) (held s) ++ halves (held s)) (s .words)
+  words-are : ws₂ ≡ laidOut s
   unfolding baseOf
   words-are =
       h .pooled ∙ ap₂ (λ (x : ℕ) (y : List ℕ). write x (halves y) ws₁) base-held held-is
@@ -173,14 +173,14 @@ module _ (s : State) (k n base : ℕ) (ws₁ ws₂ : List ℕ) (h : Pooled s k n
   length-is : length ws₂ ≡ length (s .words)
   length-is = ap length words-are ∙ write-length (written s) (padOf (written s) (held s) ++ halves (held s)) (s .words)
 
-  pub finish-short : (ws₃ : List ℕ) → length ws₂ < base + 2 * k → ws₃ ≡ zeros ws₂ → (Short (base + 2 * k) ≡ finished s) × (ws₃ ≡ finishedWords s)
+  pub finish-short : (upto : ℕ) (ws₃ : List ℕ) → length ws₂ < base + 2 * k → ws₃ ≡ zeros ws₂ → (Short (base + 2 * k) ≡ finished s) × (ws₃ ≡ finishedWords upto s)
   unfolding finished finishedWords zeros
-  finish-short ws₃ l z =
+  finish-short upto ws₃ l z =
       let t : ltb (length (s .words)) (needed s) ≡ true = lt-ltb (length (s .words)) (needed s) (omega (arith, needed-is, length-is)) in
       (rw (t, ← needed-is), rw t (z ∙ ap (λ n. replicate n 0) length-is))
 
-  pub finish-long : (f : ℕ) (ws₃ : List ℕ) → base + 2 * k ≤ length ws₂ → f ≡ atMost fixupRoom (s .asm .fixups) → ws₃ ≡ patchedTo (s .tab) base f ws₂ → (Words (base + 2 * k) ≡ finished s) × (ws₃ ≡ finishedWords s)
+  pub finish-long : (upto f : ℕ) (ws₃ : List ℕ) → base + 2 * k ≤ length ws₂ → f ≡ atMost (s .asm .fixups) upto → ws₃ ≡ patchedTo (s .tab) base (atMost fixupRoom f) ws₂ → (Words (base + 2 * k) ≡ finished s) × (ws₃ ≡ finishedWords upto s)
   unfolding finished finishedWords
-  finish-long f ws₃ l e z =
+  finish-long upto f ws₃ l e z =
       let t : ltb (length (s .words)) (needed s) ≡ false = le-ltb (length (s .words)) (needed s) (omega (arith, needed-is, length-is)) in
-      (rw (t, ← needed-is), rw t (z ∙ ap₂ (λ (x y : ℕ). patchedTo (s .tab) x y ws₂) base-held e ∙ ap (λ x. patchedTo (s .tab) (baseOf (written s) (held s)) (atMost fixupRoom (s .asm .fixups)) x) words-are))
+      (rw (t, ← needed-is), rw t (z ∙ ap₂ (λ (x y : ℕ). patchedTo (s .tab) x (atMost fixupRoom y) ws₂) base-held e ∙ ap (λ x. patchedTo (s .tab) (baseOf (written s) (held s)) (atMost fixupRoom (atMost (s .asm .fixups) upto)) x) words-are))

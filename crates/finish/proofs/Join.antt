@@ -5,20 +5,22 @@ use mathlib.Core.List.{List, [], _∷_, _++_, map, append-nil}
 use Prim.Native.Nat.{ℕ, suc, _+_, _*_, _<_, _≤_}
 use native.Mathlib.Omega.{arith}
 use lib.Dec.{ltb, eqb}
-use lib.ListN.{length, getD, take, length-append, length-set, replicate}
-use lib.Seq.{getD-take, take-length, length-take-le, append-snoc}
-use borrow.Author.Tests.{le-ltb, eqb-true}
+use lib.ListN.{length, getD, take, length-append, length-map, replicate}
+use lib.Seq.{getD-take, length-take-le, append-snoc}
+use borrow.Author.Tests.{le-ltb, ltb-true, ltb-false, eqb-true}
 use Rattle.arm.specs.declared.Instr.{Instr}
 use Rattle.code.specs.Items.{pick, adr, label, literal, Item, ins, go, new, bind, size, binds, add, poolOf, halves, padOf, baseOf, placesOf, Below}
-use Rattle.code.specs.Emit.{kind, Goal, Fixup, St, lead, patched, patchAll, lay}
+use Rattle.code.specs.Emit.{kind, St, lead, pooledWords, lay}
 use Rattle.code.specs.Emit.{run as runE, start as startE, finish as finishE}
-use Rattle.code.specs.Tree.{Depth, top, Var, Code, code, lit, to, exit, block, start, _then_, inside, words, labels, jumps, after, items, nowhere, wholeItems, wholeLines, poolIn, linesWords}
+use Rattle.code.specs.Tree.{Depth, top, Var, Code, code, lit, to, exit, block, start, _then_, inside, words, labels, jumps, after, items, nowhere, Line, wholeItems, wholeLines, poolIn, linesWords}
+use Rattle.code.specs.Walk.{patchesOf, patchedIn, walkedWords}
 use Rattle.code.proofs.Emit.{raw-size, tableOf, fixesOf, run-words, run-labels, run-pool, run-fixes, placed-is, table-placed}
 use Rattle.code.proofs.Tree.{whole-once, whole-met, whole-below, whole-size, whole-pool, whole-length}
-use Rattle.code.proofs.Order.{lay-put, lay-length, finish-lent}
+use Rattle.code.proofs.Order.{lay-put, lay-length}
+use Rattle.code.proofs.Walk.{walked-length, one-walk, pooled-is, fixes-are, walked-lent}
 use Rattle.code.proofs.Reach.{whole-reach, emitted}
 use Rattle.asm.specs.State.{labelRoom, fixupRoom, tableRoom, State, state, begin, atMost, held, run}
-use Rattle.finish.specs.Finish.{patchedTo, write, zeros, written, needed, finished, finishedWords}
+use Rattle.finish.specs.Finish.{patchedTo, write, zeros, written, needed, laidOut, finished, finishedWords}
 use Rattle.finish.specs.Whole.{laid, told, countOf, Held}
 use Rattle.finish.specs.declared.Finished.the-variants.{Words, Short}
 use Rattle.finish.proofs.Cases.{halves-length}
@@ -131,6 +133,15 @@ fixes-length q ps (go h (literal v) ∷ is) = ap suc (fixes-length (suc q) (add 
 fixes-length q ps (new ∷ is) = fixes-length q ps is
 fixes-length q ps (bind l ∷ is) = fixes-length q ps is
 
+-- a block's patches are its fix-ups, one for each word with a distance
+module _ (c : Code top) (end : List Instr) where
+  patches-fixes : (table : List ℕ) → length (patchesOf (wholeLines c end)) ≡ length (runE (wholeItems c end) (startE table) .fixes)
+  patches-fixes table = ap length (sym (fixes-are table c end)) ∙ length-map (runE (wholeItems c end) (startE table) .fixes) _
+
+  pub patches-jumps : length (patchesOf (wholeLines c end)) ≡ jumps c
+  unfolding startE
+  patches-jumps = patches-fixes [] ∙ ap length (run-fixes (wholeItems c end) (startE [])) ∙ fixes-length 0 [] (wholeItems c end) ∙ whole-goes c end
+
 -- ---- the lists
 write-lay : (xs ys lent : List ℕ) → write (length xs) ys (lay xs lent) ≡ lay (xs ++ ys) lent
 unfolding write
@@ -141,11 +152,6 @@ write-lay xs (y ∷ ys) lent =
   where
     snoc : (xs : List ℕ) (a : ℕ) → length (xs ++ (a ∷ [])) ≡ suc (length xs)
     snoc xs a = length-append xs (a ∷ []) ∙ omega arith
-
-patchAll-length : (goal : Goal → ℕ) (fs : List Fixup) (ws : List ℕ) → length (patchAll goal fs ws) ≡ length ws
-unfolding patchAll patched
-patchAll-length goal [] ws = refl
-patchAll-length goal (f ∷ fs) ws = patchAll-length goal fs (patched goal f ws) ∙ length-set ws (f .at) _
 
 pick-same : {A : Type 0} (m m′ n n′ : ℕ) (x x′ y y′ : A) → m ≡ m′ → n ≡ n′ → x ≡ x′ → y ≡ y′ → pick (ltb m n) x y ≡ pick (ltb m′ n′) x′ y′
 pick-same m m′ n n′ x x′ y y′ a c d e = ap₂ (λ (u v : ℕ). pick (ltb u v) x y) a c ∙ ap₂ (λ u v. pick (ltb m′ n′) u v) d e
@@ -160,6 +166,9 @@ module _ (tab : List ℕ) (full : length tab ≡ tableRoom) (c : Code top) (end 
 
   abbrev p : St
   p = runE is (startE table)
+
+  abbrev ls : List Line
+  ls = wholeLines c end
 
   abbrev base : ℕ
   base = baseOf (length (p .words)) (p .pool)
@@ -215,9 +224,9 @@ module _ (tab : List ℕ) (full : length tab ≡ tableRoom) (c : Code top) (end 
   finish-is = emitted table c end (rw table-length (h .labels)) (h .fine) (h .sound) (h .tests) (h .short)
 
   finish-length : length (linesWords (wholeLines c end)) ≡ base + 2 * length (p .pool)
-  unfolding finishE baseOf
+  unfolding walkedWords patchedIn baseOf
   finish-length =
-      ap length (sym finish-is) ∙ patchAll-length (lead (p .labels) base) (p .fixes) (p .words ++ (padOf (length (p .words)) (p .pool) ++ halves (p .pool)))
+      sym (walked-length ls 0) ∙ ap length (sym (pooled-is table c end))
       ∙ length-append (p .words) (padOf (length (p .words)) (p .pool) ++ halves (p .pool))
       ∙ omega (arith, length-append (padOf (length (p .words)) (p .pool)) (halves (p .pool)), halves-length (p .pool))
 
@@ -261,24 +270,38 @@ module _ (tab : List ℕ) (full : length tab ≡ tableRoom) (c : Code top) (end 
     unfolding startE
     fixups-are = ap (atMost fixupRoom) (tracks .fixups) ∙ rw (le-ltb fixupRoom (length (p .fixes)) (omega (arith, fixes-few)))
 
-    words-are : patchedTo (s .tab) (baseOf (written s) (held s)) (atMost fixupRoom (s .asm .fixups)) (write (written s) (padOf (written s) (held s) ++ halves (held s)) (s .words)) ≡ lay (linesWords (wholeLines c end)) lent
-    words-are =
-        let ws : List ℕ = p .words ++ (padOf (length (p .words)) (p .pool) ++ halves (p .pool)) in
-        ap₂ (λ (x y : ℕ). patchedTo (s .tab) x y (write (written s) (padOf (written s) (held s) ++ halves (held s)) (s .words))) base-is fixups-are
-        ∙ ap₂ (λ (n : ℕ) (ps : List ℕ). patchedTo (s .tab) base (length (p .fixes)) (write n (padOf n ps ++ halves ps) (s .words))) written-is (held-is lent s p tracks)
-        ∙ ap (λ x. patchedTo (s .tab) base (length (p .fixes)) (write (length (p .words)) (padOf (length (p .words)) (p .pool) ++ halves (p .pool)) x)) (tracks .words)
-        ∙ ap (patchedTo (s .tab) base (length (p .fixes))) (write-lay (p .words) (padOf (length (p .words)) (p .pool) ++ halves (p .pool)) lent)
-        ∙ walk (s .tab) (p .labels) base (tracks .labels) (p .fixes) (length (p .fixes)) (lay ws lent) (omega arith) goods-are (tracks .fixes)
-        ∙ ap (λ fs. patchAll (lead (p .labels) base) fs (lay ws lent)) (take-length (p .fixes))
-        ∙ finish-lent table lent is
-        ∙ ap (λ x. lay x lent) finish-is
+    laid-out : laidOut s ≡ lay (pooledWords p) lent
+    laid-out =
+        ap₂ (λ (n : ℕ) (ps : List ℕ). write n (padOf n ps ++ halves ps) (s .words)) written-is (held-is lent s p tracks)
+        ∙ ap (write (length (p .words)) (padOf (length (p .words)) (p .pool) ++ halves (p .pool))) (tracks .words)
+        ∙ write-lay (p .words) (padOf (length (p .words)) (p .pool) ++ halves (p .pool)) lent
 
-    -- THE LENT WORDS ARE THE BLOCK'S, or zeros, and the answer tells how many
-    pub finished-block : (finishedWords s ≡ laid (linesWords (wholeLines c end)) lent) × (finished s ≡ told (linesWords (wholeLines c end)) lent)
+    -- THE FIRST n PATCHES in the lent words, of as many as there are
+    pub walked : (n : ℕ) → n ≤ length (p .fixes) → patchedTo (s .tab) (baseOf (written s) (held s)) n (laidOut s) ≡ lay (walkedWords n ls) lent
+    walked n m =
+        ap₂ (λ (x : ℕ) (ws : List ℕ). patchedTo (s .tab) x n ws) base-is laid-out
+        ∙ walk (s .tab) (p .labels) base (tracks .labels) (p .fixes) n (lay (pooledWords p) lent) m goods-are (tracks .fixes)
+        ∙ walked-lent table c end finish-is n lent
+
+    words-are : (n : ℕ) → patchedTo (s .tab) (baseOf (written s) (held s)) (atMost fixupRoom (atMost (s .asm .fixups) n)) (laidOut s) ≡ lay (walkedWords n ls) lent
+    words-are n = by (ltb (s .asm .fixups) n) refl
+      where
+        by : (t : Bool) → ltb (s .asm .fixups) n ≡ t → patchedTo (s .tab) (baseOf (written s) (held s)) (atMost fixupRoom (pick t (s .asm .fixups) n)) (laidOut s) ≡ lay (walkedWords n ls) lent
+        by true e =
+            let l : length (patchesOf ls) ≤ n = omega (arith, ltb-true (s .asm .fixups) n e, tracks .fixups, patches-fixes c end table) in
+            ap (λ m. patchedTo (s .tab) (baseOf (written s) (held s)) m (laidOut s)) fixups-are
+            ∙ walked (length (p .fixes)) (omega arith)
+            ∙ ap (λ ws. lay ws lent) (one-walk ls .all (length (p .fixes)) (omega (arith, patches-fixes c end table)) ∙ sym (one-walk ls .all n l))
+        by false e =
+            let l : n ≤ length (p .fixes) = omega (arith, ltb-false (s .asm .fixups) n e, tracks .fixups) in
+            ap (λ m. patchedTo (s .tab) (baseOf (written s) (held s)) m (laidOut s)) (rw (le-ltb fixupRoom n (omega (arith, fixes-few)))) ∙ walked n l
+
+    -- THE LENT WORDS ARE THE BLOCK'S BEHIND SO MANY PATCHES, or zeros, and the answer tells how many
+    pub finished-block : ((n : ℕ) → finishedWords n s ≡ laid (walkedWords n ls) lent) × (finished s ≡ told (linesWords ls) lent)
     unfolding finished finishedWords laid told zeros
     finished-block = (
-      pick-same (length (s .words)) (length lent) (needed s) (length (linesWords (wholeLines c end))) _ _ _ _ room-is needed-is (ap (λ n. replicate n 0) room-is) words-are,
-      pick-same (length (s .words)) (length lent) (needed s) (length (linesWords (wholeLines c end))) _ _ _ _ room-is needed-is (ap Short needed-is) (ap Words needed-is),
+      λ n. pick-same (length (s .words)) (length lent) (needed s) (length (walkedWords n ls)) _ _ _ _ room-is (needed-is ∙ sym (walked-length ls n)) (ap (λ n. replicate n 0) room-is) (words-are n),
+      pick-same (length (s .words)) (length lent) (needed s) (length (linesWords ls)) _ _ _ _ room-is needed-is (ap Short needed-is) (ap Words needed-is),
     )
 
 -- whatever is lent, the number told is that of the words

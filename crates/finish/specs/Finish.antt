@@ -1,4 +1,4 @@
--- What `finish` leaves: the pool behind the words, then each distance in its field; or zeros where the room is short.
+-- What `finish` leaves: the pool behind the words, then each distance in its field, patch by patch; or zeros where the room is short.
 use mathlib.Core.Bool.{Bool}
 use mathlib.Core.List.{List, [], _∷_, _++_}
 use Prim.Native.Nat.{ℕ, zero, suc, _+_, _*_, _/_, _%_, _^_}
@@ -64,7 +64,12 @@ needed s = baseOf (written s) (held s) + 2 * kept s
 unfoldable pub finished : State → Finished
 finished s = pick (ltb (length (s .words)) (needed s)) (Short (needed s)) (Words (needed s))
 
-unfoldable pub finishedWords : State → List ℕ
-finishedWords s =
+-- before the walk: the pool behind the words
+abbrev pub laidOut : State → List ℕ
+laidOut s = write (written s) (padOf (written s) (held s) ++ halves (held s)) (s .words)
+
+-- behind the first n patches, or behind all where there are fewer
+unfoldable pub finishedWords : ℕ → State → List ℕ
+finishedWords n s =
     pick (ltb (length (s .words)) (needed s)) (zeros (s .words))
-    (patchedTo (s .tab) (baseOf (written s) (held s)) (atMost fixupRoom (s .asm .fixups)) (write (written s) (padOf (written s) (held s) ++ halves (held s)) (s .words)))
+    (patchedTo (s .tab) (baseOf (written s) (held s)) (atMost fixupRoom (atMost (s .asm .fixups) n)) (laidOut s))

@@ -4,7 +4,7 @@ ghost use Prim.Native.Nat.{_+_, _*_, _/_, _%_, _<_, _≤_, _^_};
 ghost use lib.Signed.{mag};
 ghost use lib.ListN.{set, length, getD};
 ghost use Rattle.code.specs.Items.{dist, halves, padOf, baseOf};
-ghost use Rattle.asm.specs.State.{literalRoom, fixupRoom, state, literalsFrom};
+ghost use Rattle.asm.specs.State.{literalRoom, fixupRoom, state, atMost, literalsFrom};
 ghost use Rattle.finish.specs.Finish.{fieldOf, patchIn, fixOf, leadIn, patchedAt, patchedTo, write, zeros, finished, finishedWords};
 ghost use Rattle.finish.specs.Whole.{countOf};
 use asm::Asm;
@@ -129,13 +129,14 @@ fn patch_one(words: &mut [u32], tab: &[u64; asm::TABLE], base: u32, n: u32)
     patch_at(words, at, f);
 }
 
-// One walk over the fix-ups, by rising position: the Rust patches the loads first, with the same words (code, `one-walk`).
-fn patch_all(words: &mut [u32], tab: &[u64; asm::TABLE], base: u32, fixups: u32)
-    requires { ⌜ fixups ≤ fixupRoom ⌝ }
-    ensures { λ r. ⌜ now (words .exit) ≡ patchedTo (now (tab .entry)) base fixups (now (words .entry)) ⌝ }
+// The first `upto` fix-ups of the table, in one walk: their positions rise, so that the words up to the last of them are final then and those behind it as
+// before (code, `OneWalk`). The Rust patches the literal references first, with the same words (code, `two-walks`).
+pub fn patch_to(words: &mut [u32], tab: &[u64; asm::TABLE], base: u32, upto: u32)
+    ensures { λ r. ⌜ now (words .exit) ≡ patchedTo (now (tab .entry)) base (atMost fixupRoom upto) (now (words .entry)) ⌝ }
 {
+    let end = asm::at_most(asm::FIXUPS, upto);
     let mut n: u32 = 0;
-    while n < fixups {
+    while n < end {
         patch_one(words, tab, base, n);
         n += 1;
     }
@@ -181,9 +182,10 @@ pub fn zero(words: &mut [u32])
     }
 }
 
-// The lent words are the block's, with those behind untouched; or all 0 where they are too few.
-pub fn finish(words: &mut [u32], tab: &[u64; asm::TABLE], a: Asm) -> Finished
-    ensures { λ r. ⌜ (r ≡ finished (state (now (words .entry)) (now (tab .entry)) a)) × (now (words .exit) ≡ finishedWords (state (now (words .entry)) (now (tab .entry)) a)) ⌝ }
+// The lent words are the block's behind the first `upto` patches, or behind all where there are fewer, with those beyond the block untouched; or all 0
+// where they are too few.
+pub fn finish(words: &mut [u32], tab: &[u64; asm::TABLE], a: Asm, upto: u32) -> Finished
+    ensures { λ r. ⌜ (r ≡ finished (state (now (words .entry)) (now (tab .entry)) a)) × (now (words .exit) ≡ finishedWords upto (state (now (words .entry)) (now (tab .entry)) a)) ⌝ }
 {
     let k = asm::at_most(asm::LITERALS, a.literals);
     let base = pad(words, tab, asm::at_most(1048576, a.at), k);
@@ -193,6 +195,6 @@ pub fn finish(words: &mut [u32], tab: &[u64; asm::TABLE], a: Asm) -> Finished
         zero(words);
         return Finished::Short(total);
     }
-    patch_all(words, tab, base, asm::at_most(asm::FIXUPS, a.fixups));
+    patch_to(words, tab, base, asm::at_most(a.fixups, upto));
     Finished::Words(total)
 }

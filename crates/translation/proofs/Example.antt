@@ -1,4 +1,4 @@
--- Document 01's whole listing, for every lent slice: 35 words, or 10; and 35 are needed.
+-- Document 01's whole listing, for every lent slice: 35 words, or 10; 35 are needed; and its walk over the patches.
 use mathlib.Core.Path.{_≡_, refl, ap, _∙_}
 use mathlib.Core.Bool.{false}
 use mathlib.Core.List.{List, [], _∷_, _++_}
@@ -9,7 +9,8 @@ use Rattle.record.specs.declared.Answer.the-variants.{Accepted as NoFault}
 use Rattle.record.specs.declared.Reading.{Reading}
 use Rattle.record.specs.Record.{nop, num16, num32, num64, fieldFault, layoutFault, regionFault, memoryFault, startFault, contentsFault, operationOf, operationFault, operations, header, refusedOr, layoutField, memoryField, addressesField, startField, reading}
 use Rattle.code.specs.Items.{index, add, halves, padOf, baseOf}
-use Rattle.code.specs.Tree.{words, lines, instrs, wholeLines, poolIn, findIn, linesWords}
+use Rattle.code.specs.Tree.{Line, words, lines, instrs, wholeLines, poolIn, findIn, linesWords}
+use Rattle.code.specs.Walk.{linesAt, patchesOf, unpatchedWords, patchedIn, walkedWords}
 use Rattle.lowering.specs.Instrs.{mov32}
 use Rattle.lowering.specs.Cache.{flushFrom, flush}
 use Rattle.lowering.specs.Steps.{opsSteps, blockSteps}
@@ -83,3 +84,22 @@ module _ (lent : List ℕ) where
 pub needs-35 : wordsNeeded record-bytes ≡ takes 35
 unfolding wordsNeeded needBehind
 needs-35 = ap (λ (r : Reading). needBehind (r .answer) (reading record-bytes .block)) read-is ∙ ap (λ ws. takes (length ws)) words-are
+
+-- ---- 2026-02: the limit test's branch, the exit's, the chain site's, the site's address, the exit's; and the words where the walk stops behind two of them
+abbrev block-lines : List Line
+block-lines = blockLines (reading record-bytes .block)
+
+pub patches-are : patchesOf block-lines ≡ 15 ∷ 19 ∷ 21 ∷ 24 ∷ 27 ∷ []
+unfolding blockLines blockCode chain exitImm limit stepCode stepCache stepsCode opening closing flushFrom flush mov32 opsSteps blockSteps words lines wholeLines patchesOf linesAt
+patches-are = ap (λ (r : Reading). patchesOf (blockLines (r .block))) read-is
+
+pub walked-2 : walkedWords 2 block-lines ≡
+    0xa9ba7bfd ∷ 0xa90153f3 ∷ 0xa9025bf5 ∷ 0xa90363f7 ∷ 0xa9046bf9
+    ∷ 0xa90573fb ∷ 0xaa0003f3 ∷ 0xaa0103f4 ∷ 0xaa0203f5 ∷ 0xaa0303f6
+    ∷ 0x2a0403fb ∷ 0xaa0503f9 ∷ 0x5280001a ∷ 0x11000349 ∷ 0x6b1b013f
+    ∷ 0x540000a9 ∷ 0x52a04009 ∷ 0xb9004a69 ∷ 0x11000340 ∷ 0x14000009
+    ∷ 0x1100035a ∷ 0x14000000 ∷ 0x52a04009 ∷ 0xb9004a69 ∷ 0x1000000a
+    ∷ 0xf900128a ∷ 0x2a1a03e0 ∷ 0x14000000 ∷ 0xa94573fb ∷ 0xa9446bf9
+    ∷ 0xa94363f7 ∷ 0xa9425bf5 ∷ 0xa94153f3 ∷ 0xa8c67bfd ∷ 0xd65f03c0 ∷ []
+unfolding blockLines blockCode chain exitImm limit stepCode stepCache stepsCode opening closing flushFrom flush mov32 opsSteps blockSteps index add halves padOf baseOf words lines instrs wholeLines poolIn findIn linesWords patchesOf linesAt unpatchedWords patchedIn walkedWords
+walked-2 = ap (λ (r : Reading). walkedWords 2 (blockLines (r .block))) read-is

@@ -11,14 +11,14 @@ use Rattle.block.specs.declared.Block.{Block}
 use Rattle.record.specs.declared.Answer.the-variants.{Accepted as NoFault, Refused as Fault}
 use Rattle.record.specs.Record.{reading}
 use Rattle.record.proofs.Accepted.{Bytes, read-checked}
-use Rattle.code.specs.Items.{size, poolOf, padOf, halves}
+use Rattle.code.specs.Items.{size, poolOf, padOf, halves, Rise}
 use Rattle.code.specs.Tree.{words}
 use Rattle.code.proofs.Tree.{whole-size, whole-length}
 use Rattle.lowering.specs.Fragments.{closing}
 use Rattle.lowering.specs.Steps.{blockSteps}
 use Rattle.lowering.specs.declared.Site.{Site}
 use Rattle.lowering.specs.Compile.{blockCode, blockLines, blockWords, bodyOffset, starts, targets, zipSites, sites}
-use Rattle.bounds.specs.Whole.{Rise, itemsOf, meant}
+use Rattle.bounds.specs.Whole.{itemsOf, meant}
 use Rattle.bounds.proofs.Whole.{emitted}
 use Rattle.bounds.proofs.Sites.{sited}
 use Rattle.finish.specs.Finish.{zeros}

@@ -6,7 +6,7 @@ use lib.ListN.{length, take}
 use Rattle.block.specs.declared.Block.{Block}
 use Rattle.record.specs.Record.{reading}
 use Rattle.lowering.specs.declared.Site.{Site}
-use Rattle.bounds.specs.Whole.{Rise}
+use Rattle.code.specs.Items.{Rise}
 use Rattle.machine.specs.State.{State, xip}
 use Rattle.machine.specs.Memory.{bytesOf}
 use Rattle.machine.specs.Execute.{Helpers}

@@ -9,17 +9,19 @@ use Rattle.block.specs.Checked.{Checked}
 use Rattle.code.specs.Items.{new, bind}
 use Rattle.code.specs.Tree.{Depth, top, Var, Code, code, Fine, nowhere, words, wholeItems}
 use Rattle.code.specs.Lent.{calls}
+use Rattle.code.specs.Walk.{walkedWords}
 use Rattle.code.proofs.Tree.{whole-size, whole-length}
+use Rattle.code.proofs.Walk.{one-walk}
 use Rattle.lowering.specs.Fragments.{closing}
 use Rattle.lowering.specs.Compile.{blockCode, blockLines, blockWords, starts}
-use Rattle.asm.specs.State.{tableRoom, State, state, begin, put, made, run, after}
+use Rattle.asm.specs.State.{fixupRoom, tableRoom, State, state, begin, put, made, run, after}
 use Rattle.asm.proofs.Laws.{words-run, whole-run}
 use Rattle.emission.specs.Total.{emitted, afterT, startsT}
 use Rattle.emission.proofs.Carried.{fine-run}
 use Rattle.emission.proofs.Position.{starts-are}
 use Rattle.finish.specs.Finish.{finished, finishedWords}
 use Rattle.finish.specs.Whole.{laid, told, Held}
-use Rattle.finish.proofs.Join.{finished-block}
+use Rattle.finish.proofs.Join.{patches-jumps, finished-block}
 use Rattle.bounds.specs.Whole.{Tables, Carries}
 use Rattle.bounds.proofs.Whole.{tables, carries}
 
@@ -28,7 +30,7 @@ fine-after : {n : Depth} (c : Code n) (e : Var n → ℕ) (x : ℕ) (s : State) 
 unfolding afterT after
 fine-after c e x s h = fine-run c e x (s .asm .labels) s h
 
-module _ (blk : Block) (ck : Checked blk) (lent tab : List ℕ) where
+module _ (blk : Block) (ck : Checked blk) where
   held : Held (blockCode blk) closing
   unfolding blockLines
   held =
@@ -44,7 +46,12 @@ module _ (blk : Block) (ck : Checked blk) (lent tab : List ℕ) where
         short = k .short;
       }
 
-  module _ (s₁ : State) (p : s₁ ≡ put new (state lent tab begin)) where
+  -- THE WALK TO ITS END, which the table holds
+  pub walked-all : walkedWords fixupRoom (blockLines blk) ≡ blockWords blk
+  unfolding blockWords blockLines
+  walked-all = one-walk (blockLines blk) .all fixupRoom (omega (arith, patches-jumps (blockCode blk) closing, held .jumps))
+
+  module _ (lent tab : List ℕ) (s₁ : State) (p : s₁ ≡ put new (state lent tab begin)) where
     module _ (full : length tab ≡ tableRoom) (s₂ s₃ s₄ : State) (q : s₂ ≡ afterT (blockCode blk) nowhere 0 s₁) (r : s₃ ≡ put (bind 0) s₂) (t : s₄ ≡ emitted closing s₃) where
       items-run : s₄ ≡ run (wholeItems (blockCode blk) closing) (state lent tab begin)
       unfolding Fine calls emitted
@@ -53,10 +60,10 @@ module _ (blk : Block) (ck : Checked blk) (lent tab : List ℕ) where
           (q ∙ fine-after (blockCode blk) nowhere 0 s₁ (held .fine)) r
           (t ∙ fine-run {n = top} (code closing) nowhere 0 0 s₃ (held .sound) ∙ sym (words-run closing s₃))
 
-      -- THE LENT WORDS, and the answer
-      pub whole-words : finishedWords s₄ ≡ laid (blockWords blk) lent
-      unfolding blockWords blockLines
-      whole-words = ap finishedWords items-run ∙ finished-block tab full (blockCode blk) closing held lent .0
+      -- THE LENT WORDS behind so many patches, and the answer
+      pub whole-walked : (n : ℕ) → finishedWords n s₄ ≡ laid (walkedWords n (blockLines blk)) lent
+      unfolding blockLines
+      whole-walked n = ap (finishedWords n) items-run ∙ finished-block tab full (blockCode blk) closing held lent .0 n
 
       pub whole-told : finished s₄ ≡ told (blockWords blk) lent
       unfolding blockWords blockLines

@@ -1,21 +1,11 @@
 use borrow.Author.Needs.{needs}
-use mathlib.Core.Path.{refl, _∙_}
-use Rattle.compile.proofs.Laws.{words-are, told-is, ats-are, targets-are}
+use mathlib.Core.Path.{_∙_}
+use Rattle.compile.proofs.Laws.{all-are}
 use Rattle.compile.proofs.compile.Statement.{statement}
 use Rattle.compile.proofs.compile.Tie as tie
 
-same-length : tie.Need-same-length
-same-length c = c .before .before .finish .kept .0 ∙ c .before .before .before .before .before .before .before .before .emit .kept .0
-
 returns : tie.Need-returns
-returns c = λ ck.
-    let h = c .before .before .before .before .before .before .before .before .emit .ensures in
-    let full = c .before .before .before .before .before .before .before .before .before .before .before .sized .ensures in (
-      c .before .before .finish .ensures .0 ∙ told-is _ ck _ _ _ _ full _ h,
-      c .before .before .finish .ensures .1 ∙ words-are _ ck _ _ _ _ full _ h,
-      ats-are _ ck _ _ _ _ full _ h,
-      targets-are _ ck _ _ _ _ full _ h,
-    )
+returns c = λ ck. let h = c .before .before .compile-to .ensures .0 ck in (h .0, h .1 ∙ all-are _ ck _, h .2, h .3)
 
 pub compile-spec : {M : Type 1} → statement M
-compile-spec = tie.close (tie.spec (λ c κs. search needs) (λ c κs. search needs) (λ c κs. search needs) same-length returns)
+compile-spec = tie.close (tie.spec (λ c κs. search needs) (λ c. search needs) returns)

@@ -17,7 +17,7 @@ returns c =
       padded = c .before .before .before .before .before .before .before .before .before .before .before .pad .ensures .2;
       pooled = c .before .before .before .before .before .before .before .pool .ensures;
     })
-    _ (omega arith) (c .before .before .zero .ensures)
+    _ _ (omega arith) (c .before .before .zero .ensures)
 
 returns-2 : tie.Need-returns-2
 returns-2 c =
@@ -29,7 +29,7 @@ returns-2 c =
       padded = c .before .before .before .before .before .before .before .before .before .before .before .before .pad .ensures .2;
       pooled = c .before .before .before .before .before .before .before .before .pool .ensures;
     })
-    _ _ (omega arith) (c .before .before .before .at-most3 .ensures .0) (c .before .before .patch-all .ensures)
+    _ _ _ (omega arith) (c .before .before .before .at-most3 .ensures .0) (c .before .before .patch-to .ensures)
 
 pub finish-spec : {M : Type 1} → statement M
 finish-spec =
