@@ -11,7 +11,7 @@ use borrow.Author.Tests.{ltb-true, ltb-false}
 use lib.ListN.{length, getD, set, take, drop, length-append, length-set}
 use lib.Seq.{getD-set-same, getD-set-other, getD-take, set-comm, take-set-le, set-out, take-suc}
 use Rattle.code.specs.Items.{Hole, Place, label, literal, Item, ins, go, new, bind, dist, size, index, add, halves, padOf, Rise}
-use Rattle.code.specs.Emit.{Fix, kind, patch, Goal, toLabel, toEntry, Fixup, patched, patchAll, pooledWords, leads, fixesAt, pickGoal, entriesOf, branchesOf, lay, St, run, start, finish, finishTwice}
+use Rattle.code.specs.Emit.{Fix, kind, patch, Goal, toLabel, toEntry, Fixup, patchedWord, patched, patchAll, pooledWords, leads, fixesAt, pickGoal, entriesOf, branchesOf, lay, St, run, start, finish, finishTwice}
 use Rattle.code.specs.Walk.{patchedIn}
 use Rattle.code.proofs.Emit.{raw, raw-size, fixesOf, run-words, run-fixes}
 
@@ -25,7 +25,7 @@ rise-from p p′ q [] h r = omega arith
 rise-from p p′ q (x ∷ xs) h r = (omega (arith, r .0), r .1)
 
 -- the fix-ups' positions rise as the items are emitted
-pub rising : (p q : ℕ) (ps : List ℕ) (is : List Item) → p + size is ≤ q → Rise p q (fixesAt (fixesOf p ps is))
+rising : (p q : ℕ) (ps : List ℕ) (is : List Item) → p + size is ≤ q → Rise p q (fixesAt (fixesOf p ps is))
 unfolding fixesOf size
 rising p q ps [] h = omega arith
 rising p q ps (ins i ∷ is) h = rise-from p (suc p) q (fixesAt (fixesOf (suc p) ps is)) (omega arith) (rising (suc p) q ps is (omega arith))
@@ -39,8 +39,8 @@ module _ (to : Goal → ℕ) where
   swap : (f g : Fixup) (ws : List ℕ) → f .at ≢ g .at → patched to g (patched to f ws) ≡ patched to f (patched to g ws)
   unfolding patched
   swap f g ws n =
-      let a : ℕ = (getD ws (f .at) 0 + patch (f .field) (dist (to (f .goal)) (f .at))) % 2 ^ 32 in
-      let c : ℕ = (getD ws (g .at) 0 + patch (g .field) (dist (to (g .goal)) (g .at))) % 2 ^ 32 in
+      let a : ℕ = patchedWord to f ws in
+      let c : ℕ = patchedWord to g ws in
       ap (λ w. set (set ws (f .at) a) (g .at) ((w + patch (g .field) (dist (to (g .goal)) (g .at))) % 2 ^ 32)) (getD-set-other ws (f .at) (g .at) a 0 (λ e. n (sym e)))
       ∙ set-comm ws (f .at) (g .at) a c n
       ∙ ap (λ w. set (set ws (g .at) c) (f .at) ((w + patch (f .field) (dist (to (f .goal)) (f .at))) % 2 ^ 32)) (sym (getD-set-other ws (g .at) (f .at) c 0 n))
@@ -76,13 +76,13 @@ module _ (to : Goal → ℕ) where
   unfolding patchAll patched
   later p q [] ws r = refl
   later p q (f ∷ fs) ws r =
-      later p q fs (patched to f ws) (rise-from p (suc (f .at)) q (fixesAt fs) (omega (arith, r .0)) (r .1)) ∙ take-set-le p ws (f .at) ((getD ws (f .at) 0 + patch (f .field) (dist (to (f .goal)) (f .at))) % 2 ^ 32) (r .0)
+      later p q fs (patched to f ws) (rise-from p (suc (f .at)) q (fixesAt fs) (omega (arith, r .0)) (r .1)) ∙ take-set-le p ws (f .at) (patchedWord to f ws) (r .0)
 
   -- a patch leaves the final word in its place
   patch-final : (p q : ℕ) (f : Fixup) (fs : List Fixup) (ws : List ℕ) → q ≤ length ws → Rise p q (fixesAt (f ∷ fs)) → patched to f ws ≡ set ws (f .at) (getD (patchAll to fs (patched to f ws)) (f .at) 0)
   unfolding patched
   patch-final p q f fs ws l r =
-      let v : ℕ = (getD ws (f .at) 0 + patch (f .field) (dist (to (f .goal)) (f .at))) % 2 ^ 32 in
+      let v : ℕ = patchedWord to f ws in
       let ws′ : List ℕ = patchAll to fs (patched to f ws) in
       ap (set ws (f .at))
       (sym (getD-set-same ws (f .at) v 0 (omega (arith, rise-le (suc (f .at)) q (fixesAt fs) (r .1))))
@@ -91,12 +91,12 @@ module _ (to : Goal → ℕ) where
       ∙ getD-take (suc (f .at)) ws′ (f .at) 0 (omega arith))
 
   -- THE FIRST n PATCHES OF THE ASSEMBLER are those of a walk over their positions
-  pub patches-walk : (p q n : ℕ) (fs : List Fixup) (ws : List ℕ) → q ≤ length ws → Rise p q (fixesAt fs) → patchAll to (take n fs) ws ≡ patchedIn (take n (fixesAt fs)) (patchAll to fs ws) ws
+  patches-walk : (p q n : ℕ) (fs : List Fixup) (ws : List ℕ) → q ≤ length ws → Rise p q (fixesAt fs) → patchAll to (take n fs) ws ≡ patchedIn (take n (fixesAt fs)) (patchAll to fs ws) ws
   unfolding patchAll patchedIn patched
   patches-walk p q zero fs ws l r = refl
   patches-walk p q (suc n) [] ws l r = refl
   patches-walk p q (suc n) (f ∷ fs) ws l r =
-      patches-walk (suc (f .at)) q n fs (patched to f ws) (omega (arith, length-set ws (f .at) ((getD ws (f .at) 0 + patch (f .field) (dist (to (f .goal)) (f .at))) % 2 ^ 32))) (r .1)
+      patches-walk (suc (f .at)) q n fs (patched to f ws) (omega (arith, length-set ws (f .at) (patchedWord to f ws))) (r .1)
       ∙ ap (patchedIn (take n (fixesAt fs)) (patchAll to fs (patched to f ws))) (patch-final p q f fs ws l r)
 
   pub patchAll-append : (fs gs : List Fixup) (ws : List ℕ) → patchAll to (fs ++ gs) ws ≡ patchAll to gs (patchAll to fs ws)
@@ -159,7 +159,7 @@ lay-first to p q zero fs ws lent l r = refl
 lay-first to p q (suc n) [] ws lent l r = refl
 lay-first to p q (suc n) (f ∷ fs) ws lent l r =
     ap (patchAll to (take n fs)) (lay-patched to f ws lent (omega (arith, rise-le (suc (f .at)) q (fixesAt fs) (r .1))))
-    ∙ lay-first to (suc (f .at)) q n fs (patched to f ws) lent (omega (arith, length-set ws (f .at) ((getD ws (f .at) 0 + patch (f .field) (dist (to (f .goal)) (f .at))) % 2 ^ 32))) (r .1)
+    ∙ lay-first to (suc (f .at)) q n fs (patched to f ws) lent (omega (arith, length-set ws (f .at) (patchedWord to f ws))) (r .1)
 
 -- ---- of items emitted
 module _ (table : List ℕ) (is : List Item) where

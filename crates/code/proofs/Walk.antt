@@ -19,8 +19,7 @@ use Rattle.code.proofs.Emit.{raw, fixesOf, run-words, run-pool, run-fix
 use Rattle.code.proofs.Tree.{whole-pool}
 use Rattle.code.proofs.Order.{rise-le, rise-from, walk-lent}
 
--- ---- rising linesAt
--- up to one of them, and behind it
+-- ---- rising positions, up to one of them and behind it
 rise-take : (p q : ℕ) (xs : List ℕ) (n : ℕ) → n < length xs → Rise p q xs → Rise p (suc (getD xs n 0)) (take (suc n) xs)
 rise-take p q [] n h r = absurd (omega arith)
 rise-take p q (x ∷ xs) zero h r = (r .0, omega arith)
@@ -64,39 +63,47 @@ module _ (final : List ℕ) where
   kept-behind p q (x ∷ ps) ws r = kept-behind (suc x) q ps (set ws x (getD final x 0)) (r .1) ∙ drop-set-lt q ws x (getD final x 0) (rise-le (suc x) q ps (r .1))
 
 -- ---- all patches leave the lines' words
-abbrev meantWords : (ℕ → ℕ) → ℕ → List Line → List ℕ
-meantWords find p ls = map encode (instrs find p ls)
-
 abbrev bareWords : List Line → List ℕ
 bareWords ls = map (λ l. encode (unpatched l)) ls
 
+-- words `pre`, the lines' from there on, words `post`: final, and unpatched
+abbrev finalIn : (ℕ → ℕ) → ℕ → List Line → (pre post : List ℕ) → List ℕ
+finalIn find p ls pre post = pre ++ (map encode (instrs find p ls) ++ post)
+
+abbrev bareIn : List Line → (pre post : List ℕ) → List ℕ
+bareIn ls pre post = pre ++ (bareWords ls ++ post)
+
 Completed : (ℕ → ℕ) → ℕ → List Line → Type 0
-Completed find p ls = (pre post : List ℕ) → length pre ≡ p → patchedIn (linesAt hasDistance p ls) (pre ++ (meantWords find p ls ++ post)) (pre ++ (bareWords ls ++ post)) ≡ pre ++ (meantWords find p ls ++ post)
+Completed find p ls = (pre post : List ℕ) → length pre ≡ p → patchedIn (linesAt hasDistance p ls) (finalIn find p ls pre post) (bareIn ls pre post) ≡ finalIn find p ls pre post
 
--- the head's word is final, and the rest goes on behind it
-behind : (find : ℕ → ℕ) (p : ℕ) (ls : List Line) (w : ℕ) → Completed find (suc p) ls → (pre post : List ℕ) → length pre ≡ p
-    → patchedIn (linesAt hasDistance (suc p) ls) (pre ++ (w ∷ (meantWords find (suc p) ls ++ post))) (pre ++ (w ∷ (bareWords ls ++ post))) ≡ pre ++ (w ∷ (meantWords find (suc p) ls ++ post))
-unfolding Completed
-behind find p ls w rec pre post e =
-    ap₂ (λ (x y : List ℕ). patchedIn (linesAt hasDistance (suc p) ls) x y) (sym (append-snoc pre w (meantWords find (suc p) ls ++ post))) (sym (append-snoc pre w (bareWords ls ++ post)))
-    ∙ rec (pre ++ (w ∷ [])) post (length-append pre (w ∷ []) ∙ omega arith) ∙ append-snoc pre w (meantWords find (suc p) ls ++ post)
+module _ (find : ℕ → ℕ) (p : ℕ) (ls : List Line) (rec : Completed find (suc p) ls) (pre post : List ℕ) (e : length pre ≡ p) where
+  abbrev rest : List ℕ
+  rest = map encode (instrs find (suc p) ls) ++ post
 
--- a word with a distance is put in its place
-one : (find : ℕ → ℕ) (p : ℕ) (ls : List Line) (w v : ℕ) → Completed find (suc p) ls → (pre post : List ℕ) → length pre ≡ p
-    → patchedIn (p ∷ linesAt hasDistance (suc p) ls) (pre ++ (w ∷ (meantWords find (suc p) ls ++ post))) (pre ++ (v ∷ (bareWords ls ++ post))) ≡ pre ++ (w ∷ (meantWords find (suc p) ls ++ post))
-unfolding patchedIn
-one find p ls w v rec pre post e =
-    ap (λ x. patchedIn (linesAt hasDistance (suc p) ls) (pre ++ (w ∷ (meantWords find (suc p) ls ++ post))) x)
-    (ap (set (pre ++ (v ∷ (bareWords ls ++ post))) p) (getD-at pre w (meantWords find (suc p) ls ++ post) 0 p e) ∙ set-at pre v (bareWords ls ++ post) w p e)
-    ∙ behind find p ls w rec pre post e
+  abbrev bare-rest : List ℕ
+  bare-rest = bareWords ls ++ post
+
+  -- the head's word is final, and the rest goes on behind it
+  behind : (w : ℕ) → patchedIn (linesAt hasDistance (suc p) ls) (pre ++ (w ∷ rest)) (pre ++ (w ∷ bare-rest)) ≡ pre ++ (w ∷ rest)
+  unfolding Completed
+  behind w =
+      ap₂ (patchedIn (linesAt hasDistance (suc p) ls)) (sym (append-snoc pre w rest)) (sym (append-snoc pre w bare-rest))
+      ∙ rec (pre ++ (w ∷ [])) post (length-append pre (w ∷ []) ∙ omega arith) ∙ append-snoc pre w rest
+
+  -- a word with a distance is put in its place
+  one : (w v : ℕ) → patchedIn (p ∷ linesAt hasDistance (suc p) ls) (pre ++ (w ∷ rest)) (pre ++ (v ∷ bare-rest)) ≡ pre ++ (w ∷ rest)
+  unfolding patchedIn
+  one w v =
+      ap (patchedIn (linesAt hasDistance (suc p) ls) (pre ++ (w ∷ rest))) (ap (set (pre ++ (v ∷ bare-rest)) p) (getD-at pre w rest 0 p e) ∙ set-at pre v bare-rest w p e)
+      ∙ behind w
 
 completed : (find : ℕ → ℕ) (p : ℕ) (ls : List Line) → Completed find p ls
 unfolding Completed linesAt instrs patchedIn
 completed find p [] pre post e = refl
-completed find p (plain i ∷ ls) pre post e = behind find p ls (encode i) (completed find (suc p) ls) pre post e
-completed find p (over h n ∷ ls) pre post e = one find p ls _ _ (completed find (suc p) ls) pre post e
-completed find p (back rd n ∷ ls) pre post e = one find p ls _ _ (completed find (suc p) ls) pre post e
-completed find p (load rt v ∷ ls) pre post e = one find p ls _ _ (completed find (suc p) ls) pre post e
+completed find p (plain i ∷ ls) pre post e = behind find p ls (completed find (suc p) ls) pre post e (encode i)
+completed find p (over h n ∷ ls) pre post e = one find p ls (completed find (suc p) ls) pre post e _ _
+completed find p (back rd n ∷ ls) pre post e = one find p ls (completed find (suc p) ls) pre post e _ _
+completed find p (load rt v ∷ ls) pre post e = one find p ls (completed find (suc p) ls) pre post e _ _
 
 -- ---- THE WALK
 module _ (ls : List Line) where
@@ -112,14 +119,19 @@ module _ (ls : List Line) where
   unfolding walkedWords
   up-to n h =
       let ps : List ℕ = patchesOf ls in
-      sym (kept-before (linesWords ls) (suc (patchAt ls n)) (length ls) (drop (suc n) ps) (walkedWords (suc n) ls) (rise-drop 0 (length ls) ps n h rises))
-      ∙ ap (take (suc (patchAt ls n)))
-      (sym (patchedIn-append (linesWords ls) (take (suc n) ps) (drop (suc n) ps) (unpatchedWords ls)) ∙ ap (λ qs. patchedIn qs (linesWords ls) (unpatchedWords ls)) (take-append-drop (suc n) ps) ∙ whole)
+      let q : ℕ = suc (patchAt ls n) in
+      sym (kept-before (linesWords ls) q (length ls) (drop (suc n) ps) (walkedWords (suc n) ls) (rise-drop 0 (length ls) ps n h rises))
+      ∙ ap (take q)
+      (sym (patchedIn-append (linesWords ls) (take (suc n) ps) (drop (suc n) ps) (unpatchedWords ls))
+      ∙ ap (λ qs. patchedIn qs (linesWords ls) (unpatchedWords ls)) (take-append-drop (suc n) ps)
+      ∙ whole)
 
   pub walked-length : (n : ℕ) → length (walkedWords n ls) ≡ length (linesWords ls)
   unfolding walkedWords
-  walked-length n =
-      patchedIn-length (linesWords ls) (take n (patchesOf ls)) (unpatchedWords ls) ∙ sym (patchedIn-length (linesWords ls) (patchesOf ls) (unpatchedWords ls)) ∙ ap length whole
+  walked-length n = kept (take n (patchesOf ls)) ∙ sym (kept (patchesOf ls)) ∙ ap length whole
+    where
+      kept : (ps : List ℕ) → length (patchedIn ps (linesWords ls) (unpatchedWords ls)) ≡ length (unpatchedWords ls)
+      kept ps = patchedIn-length (linesWords ls) ps (unpatchedWords ls)
 
   pub one-walk : OneWalk ls
   unfolding walkedWords
@@ -220,14 +232,21 @@ module _ (table : List ℕ) (c : Code top) (end : List Instr) where
 
   pub pooled-is : pooledWords s ≡ unpatchedWords (wholeLines c end)
   unfolding begin unpatchedWords
-  pooled-is =
-      let w : s .words ≡ bareWords (wholeLines c end) = run-words (wholeItems c end) (begin table) ∙ raw-bare (wholeItems c end) ∙ ap bareWords (bare-whole c end) ∙ words-bare (wholeLines c end) in
-      let q : s .pool ≡ poolIn [] (wholeLines c end) = run-pool (wholeItems c end) (begin table) ∙ whole-pool c end in
-      rw (w, q, length-map (wholeLines c end) (λ l. encode (unpatched l)))
+  pooled-is = rw (words-are, pool-is, length-map (wholeLines c end) (λ l. encode (unpatched l)))
+    where
+      words-are : s .words ≡ bareWords (wholeLines c end)
+      words-are =
+          run-words (wholeItems c end) (begin table) ∙ raw-bare (wholeItems c end)
+          ∙ ap bareWords (bare-whole c end) ∙ words-bare (wholeLines c end)
+
+      pool-is : s .pool ≡ poolIn [] (wholeLines c end)
+      pool-is = run-pool (wholeItems c end) (begin table) ∙ whole-pool c end
 
   pub fixes-are : fixesAt (s .fixes) ≡ patchesOf (wholeLines c end)
   unfolding begin patchesOf
-  fixes-are = ap fixesAt (run-fixes (wholeItems c end) (begin table)) ∙ fixes-bare 0 [] (wholeItems c end) ∙ ap (linesAt hasDistance 0) (bare-whole c end) ∙ lines-bare 0 (wholeLines c end)
+  fixes-are =
+      ap fixesAt (run-fixes (wholeItems c end) (begin table)) ∙ fixes-bare 0 [] (wholeItems c end)
+      ∙ ap (linesAt hasDistance 0) (bare-whole c end) ∙ lines-bare 0 (wholeLines c end)
 
   pub walked-lent : finish s ≡ linesWords (wholeLines c end) → (n : ℕ) (lent : List ℕ) → patchAll (leads s) (take n (s .fixes)) (lay (pooledWords s) lent) ≡ lay (walkedWords n (wholeLines c end)) lent
   unfolding walkedWords

@@ -76,8 +76,11 @@ lead labels base (toLabel l) = getD labels l 0
 lead labels base (toEntry i) = base + 2 * i
 
 -- one patch (32 bits: none is ever lost), and all in order
+abbrev pub patchedWord : (Goal → ℕ) → Fixup → List ℕ → ℕ
+patchedWord to f ws = (getD ws (f .at) 0 + patch (f .field) (dist (to (f .goal)) (f .at))) % 2 ^ 32
+
 unfoldable pub patched : (Goal → ℕ) → Fixup → List ℕ → List ℕ
-patched to f ws = set ws (f .at) ((getD ws (f .at) 0 + patch (f .field) (dist (to (f .goal)) (f .at))) % 2 ^ 32)
+patched to f ws = set ws (f .at) (patchedWord to f ws)
 
 unfoldable pub patchAll : (Goal → ℕ) → List Fixup → List ℕ → List ℕ
 patchAll to [] ws = ws
