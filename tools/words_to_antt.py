@@ -5,9 +5,9 @@
 RECORDS is a file of records in the format of the oracle's vectors: a case begins with `> name words-lent record` (hexadecimal), and the
 lines up to the next `>` are its listing. OUT is the `proofs` folder of a crate that depends on record, lowering, code, block and arm; it
 gets `Words.antt` and `Lib.antt`. For each accepted record, of at most WORDS words, four equations say that the definitions give these
-very words and these very sites (by position), that the patches are where a word of the listing before the pool has a distance, by its opcode, and that
-behind half of them the words are the listing's with the distances of the others 0. Each holds by computation, so that `rt check` of the crate
-compares every word.
+very words and these very sites (by position), that the patches are where a word of the listing before the pool has a distance, by its
+opcode, and that behind half of them the words are the listing's with the distances of the others 0. Each holds by computation, so that
+`rt check` of the crate compares every word.
 """
 import argparse
 import os
@@ -23,7 +23,7 @@ UNFOLDED = {
     "lowering.specs.Steps": "lowered opSteps opsSteps blockSteps",
     "code.specs.Items": "index add halves padOf baseOf",
     "code.specs.Tree": "words lines instrs wholeLines poolIn findIn linesWords",
-    "code.specs.Walk": "linesAt patchesOf unpatchedWords patchedIn walkedWords",
+    "code.specs.Walk": "linesAt patchesOf unpatchedWords completedAt walkedWords",
 }
 
 # The common exit, behind which the pool begins.
@@ -96,7 +96,8 @@ def equations(n, case):
     block = f"(reading (hex {len(record) // 2} 0x{record}) .block)"
     found = patches(words)
     half = len(found) // 2
-    walked = [found[i] if i in list(found)[half:] else w for i, w in enumerate(words)]
+    later = set(list(found)[half:])
+    walked = [found[i] if i in later else w for i, w in enumerate(words)]
     return f"""
 -- {name}
 words{n} : blockWords {block} ≡ {listed("0x" + w for w in words)}

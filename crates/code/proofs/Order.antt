@@ -1,4 +1,5 @@
--- The patches in one walk or in the Rust's two give the same words; each patch of the walk leaves the final word in its place; and the same in lent room.
+-- The patches in one walk or in the Rust's two give the same words; each patch of the walk leaves the final word in its place; and the same in
+-- lent room.
 use mathlib.Core.Path.{_≡_, refl, sym, ap, ap₂, subst, _∙_}
 use mathlib.Core.Logic.{_≢_}
 use mathlib.Core.Bool.{Bool, true, false}
@@ -11,8 +12,8 @@ use borrow.Author.Tests.{ltb-true, ltb-false}
 use lib.ListN.{length, getD, set, take, drop, length-append, length-set}
 use lib.Seq.{getD-set-same, getD-set-other, getD-take, set-comm, take-set-le, set-out, take-suc}
 use Rattle.code.specs.Items.{Hole, Place, label, literal, Item, ins, go, new, bind, dist, size, index, add, halves, padOf, Rise}
-use Rattle.code.specs.Emit.{Fix, kind, patch, Goal, toLabel, toEntry, Fixup, patchedWord, patched, patchAll, pooledWords, leads, fixesAt, pickGoal, entriesOf, branchesOf, lay, St, run, start, finish, finishTwice}
-use Rattle.code.specs.Walk.{patchedIn}
+use Rattle.code.specs.Emit.{Fix, kind, patch, Goal, toLabel, toEntry, Fixup, patchedWord, patched, patchAll, pooledWords, leads, fixesAt, pickGoal, entriesOf, branchesOf, lay, St, run, start, finish, finishInTwo}
+use Rattle.code.specs.Walk.{completedAt}
 use Rattle.code.proofs.Emit.{raw, raw-size, fixesOf, run-words, run-fixes}
 
 -- ---- rising positions
@@ -91,13 +92,13 @@ module _ (to : Goal → ℕ) where
       ∙ getD-take (suc (f .at)) ws′ (f .at) 0 (omega arith))
 
   -- THE FIRST n PATCHES OF THE ASSEMBLER are those of a walk over their positions
-  patches-walk : (p q n : ℕ) (fs : List Fixup) (ws : List ℕ) → q ≤ length ws → Rise p q (fixesAt fs) → patchAll to (take n fs) ws ≡ patchedIn (take n (fixesAt fs)) (patchAll to fs ws) ws
-  unfolding patchAll patchedIn patched
+  patches-walk : (p q n : ℕ) (fs : List Fixup) (ws : List ℕ) → q ≤ length ws → Rise p q (fixesAt fs) → patchAll to (take n fs) ws ≡ completedAt (take n (fixesAt fs)) (patchAll to fs ws) ws
+  unfolding patchAll completedAt patched
   patches-walk p q zero fs ws l r = refl
   patches-walk p q (suc n) [] ws l r = refl
   patches-walk p q (suc n) (f ∷ fs) ws l r =
       patches-walk (suc (f .at)) q n fs (patched to f ws) (omega (arith, length-set ws (f .at) (patchedWord to f ws))) (r .1)
-      ∙ ap (patchedIn (take n (fixesAt fs)) (patchAll to fs (patched to f ws))) (patch-final p q f fs ws l r)
+      ∙ ap (completedAt (take n (fixesAt fs)) (patchAll to fs (patched to f ws))) (patch-final p q f fs ws l r)
 
   pub patchAll-append : (fs gs : List Fixup) (ws : List ℕ) → patchAll to (fs ++ gs) ws ≡ patchAll to gs (patchAll to fs ws)
   unfolding patchAll
@@ -173,12 +174,12 @@ module _ (table : List ℕ) (is : List Item) where
       (rising 0 (length (pooledWords s)) [] is (rw (run-words is (start table), length-append (raw is) (padOf (length (raw is)) (s .pool) ++ halves (s .pool)), raw-size is) (omega arith)))
 
   -- THE RUST'S TWO WALKS leave the same words
-  pub two-walks : finishTwice s ≡ finish s
-  unfolding finishTwice finish
+  pub two-walks : finishInTwo s ≡ finish s
+  unfolding finishInTwo finish
   two-walks = one-or-two (leads s) 0 (length (pooledWords s)) (s .fixes) (pooledWords s) rising-run
 
   -- THE WALK IN THE LENT WORDS: behind its first n patches, with no condition on the room
-  pub walk-lent : (n : ℕ) (lent : List ℕ) → patchAll (leads s) (take n (s .fixes)) (lay (pooledWords s) lent) ≡ lay (patchedIn (take n (fixesAt (s .fixes))) (finish s) (pooledWords s)) lent
+  pub walk-lent : (n : ℕ) (lent : List ℕ) → patchAll (leads s) (take n (s .fixes)) (lay (pooledWords s) lent) ≡ lay (completedAt (take n (fixesAt (s .fixes))) (finish s) (pooledWords s)) lent
   unfolding finish
   walk-lent n lent =
       lay-first (leads s) 0 (length (pooledWords s)) n (s .fixes) (pooledWords s) lent (omega arith) rising-run

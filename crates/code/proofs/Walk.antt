@@ -1,5 +1,5 @@
--- ONE WALK OVER THE PATCHES: behind each patch the words up to it are final and those behind it as before; and what the assembler patches is this
--- walk, fix-up by fix-up.
+-- ONE WALK OVER THE PATCHES: behind each patch the words up to it are final and those behind it as before; and what the assembler patches
+-- is this walk, fix-up by fix-up.
 use mathlib.Core.Path.{_≡_, refl, sym, ap, ap₂, _∙_}
 use mathlib.Core.Bool.{Bool, true, false}
 use mathlib.Core.List.{List, [], _∷_, _++_, map, append-nil, map-append}
@@ -7,17 +7,17 @@ use Prim.Native.Nat.{ℕ, zero, suc, _+_, _<_, _≤_}
 use native.Mathlib.Omega.{arith}
 use lib.IntN.{pos}
 use lib.ListN.{length, getD, set, take, drop, length-append, length-map, length-set, take-append-drop}
-use lib.Seq.{take-all, take-set-le, drop-set-lt, append-snoc, set-at, getD-at}
+use lib.Seq.{take-all, take-append-le, drop-append-le, take-set-le, drop-set-lt, append-snoc, set-at, getD-at}
 use Rattle.arm.specs.declared.Instr.{Instr}
 use Rattle.arm.specs.Instr.{encode}
 use Rattle.code.specs.Items.{pick, b, adr, ldr, fill, label, literal, Item, ins, go, new, bind, index, add, halves, padOf, baseOf, Rise}
 use Rattle.code.specs.Tree.{Depth, top, Var, Code, code, lit, to, exit, block, start, _then_, inside, words, lines, after, items, nowhere, wholeItems, wholeLines, Line, plain, over, back, load, instrs, poolIn, findIn, linesWords}
 use Rattle.code.specs.Emit.{St, patchAll, pooledWords, leads, fixesAt, run, finish, lay}
 use Rattle.code.specs.Emit.{start as begin}
-use Rattle.code.specs.Walk.{hasDistance, linesAt, patchesOf, unpatched, unpatchedWords, patchedIn, walkedWords, patchAt, OneWalk}
+use Rattle.code.specs.Walk.{namesPlace, linesAt, patchesOf, unpatched, unpatchedWords, completedAt, walkedWords, nthPatch, OneWalk}
 use Rattle.code.proofs.Emit.{raw, fixesOf, run-words, run-pool, run-fixes}
 use Rattle.code.proofs.Tree.{whole-pool}
-use Rattle.code.proofs.Order.{rise-le, rise-from, walk-lent}
+use Rattle.code.proofs.Order.{rise-le, rise-from, lay-fits, walk-lent}
 
 -- ---- rising positions, up to one of them and behind it
 rise-take : (p q : ℕ) (xs : List ℕ) (n : ℕ) → n < length xs → Rise p q xs → Rise p (suc (getD xs n 0)) (take (suc n) xs)
@@ -41,24 +41,24 @@ lines-rise kind p q (l ∷ ls) h = by (kind l) (lines-rise kind (suc p) q ls (om
 
 -- ---- patches by position
 module _ (final : List ℕ) where
-  patchedIn-append : (ps qs ws : List ℕ) → patchedIn (ps ++ qs) final ws ≡ patchedIn qs final (patchedIn ps final ws)
-  unfolding patchedIn
-  patchedIn-append [] qs ws = refl
-  patchedIn-append (p ∷ ps) qs ws = patchedIn-append ps qs (set ws p (getD final p 0))
+  completed-append : (ps qs ws : List ℕ) → completedAt (ps ++ qs) final ws ≡ completedAt qs final (completedAt ps final ws)
+  unfolding completedAt
+  completed-append [] qs ws = refl
+  completed-append (p ∷ ps) qs ws = completed-append ps qs (set ws p (getD final p 0))
 
-  patchedIn-length : (ps ws : List ℕ) → length (patchedIn ps final ws) ≡ length ws
-  unfolding patchedIn
-  patchedIn-length [] ws = refl
-  patchedIn-length (p ∷ ps) ws = patchedIn-length ps (set ws p (getD final p 0)) ∙ length-set ws p (getD final p 0)
+  completed-length : (ps ws : List ℕ) → length (completedAt ps final ws) ≡ length ws
+  unfolding completedAt
+  completed-length [] ws = refl
+  completed-length (p ∷ ps) ws = completed-length ps (set ws p (getD final p 0)) ∙ length-set ws p (getD final p 0)
 
   -- patches from p on leave the words before p, patches below q those from q on
-  kept-before : (p q : ℕ) (ps ws : List ℕ) → Rise p q ps → take p (patchedIn ps final ws) ≡ take p ws
-  unfolding patchedIn
+  kept-before : (p q : ℕ) (ps ws : List ℕ) → Rise p q ps → take p (completedAt ps final ws) ≡ take p ws
+  unfolding completedAt
   kept-before p q [] ws r = refl
   kept-before p q (x ∷ ps) ws r = kept-before p q ps (set ws x (getD final x 0)) (rise-from p (suc x) q ps (omega (arith, r .0)) (r .1)) ∙ take-set-le p ws x (getD final x 0) (r .0)
 
-  kept-behind : (p q : ℕ) (ps ws : List ℕ) → Rise p q ps → drop q (patchedIn ps final ws) ≡ drop q ws
-  unfolding patchedIn
+  kept-behind : (p q : ℕ) (ps ws : List ℕ) → Rise p q ps → drop q (completedAt ps final ws) ≡ drop q ws
+  unfolding completedAt
   kept-behind p q [] ws r = refl
   kept-behind p q (x ∷ ps) ws r = kept-behind (suc x) q ps (set ws x (getD final x 0)) (r .1) ∙ drop-set-lt q ws x (getD final x 0) (rise-le (suc x) q ps (r .1))
 
@@ -74,7 +74,7 @@ abbrev bareIn : List Line → (pre post : List ℕ) → List ℕ
 bareIn ls pre post = pre ++ (bareWords ls ++ post)
 
 Completed : (ℕ → ℕ) → ℕ → List Line → Type 0
-Completed find p ls = (pre post : List ℕ) → length pre ≡ p → patchedIn (linesAt hasDistance p ls) (finalIn find p ls pre post) (bareIn ls pre post) ≡ finalIn find p ls pre post
+Completed find p ls = (pre post : List ℕ) → length pre ≡ p → completedAt (linesAt namesPlace p ls) (finalIn find p ls pre post) (bareIn ls pre post) ≡ finalIn find p ls pre post
 
 module _ (find : ℕ → ℕ) (p : ℕ) (ls : List Line) (rec : Completed find (suc p) ls) (pre post : List ℕ) (e : length pre ≡ p) where
   abbrev rest : List ℕ
@@ -84,21 +84,21 @@ module _ (find : ℕ → ℕ) (p : ℕ) (ls : List Line) (rec : Completed find (
   bare-rest = bareWords ls ++ post
 
   -- the head's word is final, and the rest goes on behind it
-  behind : (w : ℕ) → patchedIn (linesAt hasDistance (suc p) ls) (pre ++ (w ∷ rest)) (pre ++ (w ∷ bare-rest)) ≡ pre ++ (w ∷ rest)
+  behind : (w : ℕ) → completedAt (linesAt namesPlace (suc p) ls) (pre ++ (w ∷ rest)) (pre ++ (w ∷ bare-rest)) ≡ pre ++ (w ∷ rest)
   unfolding Completed
   behind w =
-      ap₂ (patchedIn (linesAt hasDistance (suc p) ls)) (sym (append-snoc pre w rest)) (sym (append-snoc pre w bare-rest))
+      ap₂ (completedAt (linesAt namesPlace (suc p) ls)) (sym (append-snoc pre w rest)) (sym (append-snoc pre w bare-rest))
       ∙ rec (pre ++ (w ∷ [])) post (length-append pre (w ∷ []) ∙ omega arith) ∙ append-snoc pre w rest
 
   -- a word with a distance is put in its place
-  one : (w v : ℕ) → patchedIn (p ∷ linesAt hasDistance (suc p) ls) (pre ++ (w ∷ rest)) (pre ++ (v ∷ bare-rest)) ≡ pre ++ (w ∷ rest)
-  unfolding patchedIn
+  one : (w v : ℕ) → completedAt (p ∷ linesAt namesPlace (suc p) ls) (pre ++ (w ∷ rest)) (pre ++ (v ∷ bare-rest)) ≡ pre ++ (w ∷ rest)
+  unfolding completedAt
   one w v =
-      ap (patchedIn (linesAt hasDistance (suc p) ls) (pre ++ (w ∷ rest))) (ap (set (pre ++ (v ∷ bare-rest)) p) (getD-at pre w rest 0 p e) ∙ set-at pre v bare-rest w p e)
+      ap (completedAt (linesAt namesPlace (suc p) ls) (pre ++ (w ∷ rest))) (ap (set (pre ++ (v ∷ bare-rest)) p) (getD-at pre w rest 0 p e) ∙ set-at pre v bare-rest w p e)
       ∙ behind w
 
 completed : (find : ℕ → ℕ) (p : ℕ) (ls : List Line) → Completed find p ls
-unfolding Completed linesAt instrs patchedIn
+unfolding Completed linesAt instrs completedAt
 completed find p [] pre post e = refl
 completed find p (plain i ∷ ls) pre post e = behind find p ls (completed find (suc p) ls) pre post e (encode i)
 completed find p (over h n ∷ ls) pre post e = one find p ls (completed find (suc p) ls) pre post e _ _
@@ -109,37 +109,83 @@ completed find p (load rt v ∷ ls) pre post e = one find p ls (completed find (
 module _ (ls : List Line) where
   rises : Rise 0 (length ls) (patchesOf ls)
   unfolding patchesOf
-  rises = lines-rise hasDistance 0 (length ls) ls (omega arith)
+  rises = lines-rise namesPlace 0 (length ls) ls (omega arith)
 
-  whole : patchedIn (patchesOf ls) (linesWords ls) (unpatchedWords ls) ≡ linesWords ls
+  whole : completedAt (patchesOf ls) (linesWords ls) (unpatchedWords ls) ≡ linesWords ls
   unfolding patchesOf linesWords unpatchedWords Completed
   whole = completed (findIn ls) 0 ls [] (padOf (length ls) (poolIn [] ls) ++ halves (poolIn [] ls)) refl
 
-  up-to : (n : ℕ) → n < length (patchesOf ls) → take (suc (patchAt ls n)) (walkedWords (suc n) ls) ≡ take (suc (patchAt ls n)) (linesWords ls)
+  pub walked-all : (n : ℕ) → length (patchesOf ls) ≤ n → walkedWords n ls ≡ linesWords ls
   unfolding walkedWords
-  up-to n h =
-      let ps : List ℕ = patchesOf ls in
-      let q : ℕ = suc (patchAt ls n) in
-      sym (kept-before (linesWords ls) q (length ls) (drop (suc n) ps) (walkedWords (suc n) ls) (rise-drop 0 (length ls) ps n h rises))
-      ∙ ap (take q)
-      (sym (patchedIn-append (linesWords ls) (take (suc n) ps) (drop (suc n) ps) (unpatchedWords ls))
-      ∙ ap (λ qs. patchedIn qs (linesWords ls) (unpatchedWords ls)) (take-append-drop (suc n) ps)
-      ∙ whole)
+  walked-all n h = ap (λ ps. completedAt ps (linesWords ls) (unpatchedWords ls)) (take-all n (patchesOf ls) h) ∙ whole
+
+  bare-length : length (unpatchedWords ls) ≡ length (linesWords ls)
+  bare-length = sym (completed-length (linesWords ls) (patchesOf ls) (unpatchedWords ls)) ∙ ap length whole
 
   pub walked-length : (n : ℕ) → length (walkedWords n ls) ≡ length (linesWords ls)
   unfolding walkedWords
-  walked-length n = kept (take n (patchesOf ls)) ∙ sym (kept (patchesOf ls)) ∙ ap length whole
-    where
-      kept : (ps : List ℕ) → length (patchedIn ps (linesWords ls) (unpatchedWords ls)) ≡ length (unpatchedWords ls)
-      kept ps = patchedIn-length (linesWords ls) ps (unpatchedWords ls)
+  walked-length n = completed-length (linesWords ls) (take n (patchesOf ls)) (unpatchedWords ls) ∙ bare-length
 
-  pub one-walk : OneWalk ls
-  unfolding walkedWords
-  one-walk = record {
-    rising = rises;
-    final = up-to;
-    before = λ n h. kept-behind (linesWords ls) 0 (suc (patchAt ls n)) (take (suc n) (patchesOf ls)) (unpatchedWords ls) (rise-take 0 (length ls) (patchesOf ls) n h rises);
-    all = λ n h. ap (λ qs. patchedIn qs (linesWords ls) (unpatchedWords ls)) (take-all n (patchesOf ls) h) ∙ whole;
+  -- behind patch number m
+  module _ (m : ℕ) (h : m < length (patchesOf ls)) where
+    abbrev q : ℕ
+    q = suc (nthPatch ls m)
+
+    in-words : q ≤ length (linesWords ls)
+    unfolding unpatchedWords
+    in-words =
+        omega (
+          arith,
+          rise-le q (length ls) (drop (suc m) (patchesOf ls)) (rise-drop 0 (length ls) (patchesOf ls) m h rises),
+          bare-length,
+          length-append (bareWords ls) (padOf (length ls) (poolIn [] ls) ++ halves (poolIn [] ls)),
+          length-map ls (λ l. encode (unpatched l)),
+        )
+
+    up-to : take q (walkedWords (suc m) ls) ≡ take q (linesWords ls)
+    unfolding walkedWords
+    up-to =
+        let ps : List ℕ = patchesOf ls in
+        sym (kept-before (linesWords ls) q (length ls) (drop (suc m) ps) (walkedWords (suc m) ls) (rise-drop 0 (length ls) ps m h rises))
+        ∙ ap (take q)
+        (sym (completed-append (linesWords ls) (take (suc m) ps) (drop (suc m) ps) (unpatchedWords ls))
+        ∙ ap (λ qs. completedAt qs (linesWords ls) (unpatchedWords ls)) (take-append-drop (suc m) ps)
+        ∙ whole)
+
+    from-there : drop q (walkedWords (suc m) ls) ≡ drop q (unpatchedWords ls)
+    unfolding walkedWords
+    from-there = kept-behind (linesWords ls) 0 q (take (suc m) (patchesOf ls)) (unpatchedWords ls) (rise-take 0 (length ls) (patchesOf ls) m h rises)
+
+-- ---- in a room that is large enough
+lay-take : (k : ℕ) (xs lent : List ℕ) → k ≤ length xs → length xs ≤ length lent → take k (lay xs lent) ≡ take k xs
+lay-take k xs lent h l = ap (take k) (lay-fits xs lent l) ∙ take-append-le k xs (drop (length xs) lent) h
+
+lay-drop : (k : ℕ) (xs lent : List ℕ) → k ≤ length xs → length xs ≤ length lent → drop k (lay xs lent) ≡ drop k xs ++ drop (length xs) lent
+lay-drop k xs lent h l = ap (drop k) (lay-fits xs lent l) ∙ drop-append-le k xs (drop (length xs) lent) h
+
+-- THE WALK IN A LENT ROOM
+module _ (ls : List Line) (lent : List ℕ) (fits : length (linesWords ls) ≤ length lent) where
+  stopped-final : (m : ℕ) (h : m < length (patchesOf ls)) → take (suc (nthPatch ls m)) (lay (walkedWords (suc m) ls) lent) ≡ take (suc (nthPatch ls m)) (linesWords ls)
+  stopped-final m h =
+      let e : length (walkedWords (suc m) ls) ≡ length (linesWords ls) = walked-length ls (suc m) in
+      lay-take (suc (nthPatch ls m)) (walkedWords (suc m) ls) lent (omega (arith, in-words ls m h)) (omega arith) ∙ up-to ls m h
+
+  stopped-before : (m : ℕ) (h : m < length (patchesOf ls)) → drop (suc (nthPatch ls m)) (lay (walkedWords (suc m) ls) lent) ≡ drop (suc (nthPatch ls m)) (lay (unpatchedWords ls) lent)
+  stopped-before m h =
+      let e : length (walkedWords (suc m) ls) ≡ length (unpatchedWords ls) = walked-length ls (suc m) ∙ sym (bare-length ls) in
+      let f : length (unpatchedWords ls) ≡ length (linesWords ls) = bare-length ls in
+      lay-drop (suc (nthPatch ls m)) (walkedWords (suc m) ls) lent (omega (arith, in-words ls m h)) (omega arith)
+      ∙ ap₂ (λ (xs : List ℕ) (n : ℕ). xs ++ drop n lent) (from-there ls m h) e
+      ∙ sym (lay-drop (suc (nthPatch ls m)) (unpatchedWords ls) lent (omega (arith, in-words ls m h)) (omega arith))
+
+  pub one-walk : (n : ℕ) → OneWalk ls n lent (lay (walkedWords n ls) lent)
+  unfolding walkedWords completedAt
+  one-walk n = record {
+    rising = rises ls;
+    first = λ e. rw e;
+    final = λ m e h. rw e (stopped-final m h);
+    before = λ m e h. rw e (stopped-before m h);
+    all = λ h. ap (λ ws. lay ws lent) (walked-all ls n h);
   }
 
 -- ---- WHAT IS EMITTED: the items' words and fix-ups are those of the lines, whatever the distances
@@ -200,7 +246,7 @@ raw-bare (go h t ∷ is) = ap {B = List ℕ} (λ r. encode (fill h (pos 0)) ∷ 
 raw-bare (new ∷ is) = raw-bare is
 raw-bare (bind l ∷ is) = raw-bare is
 
-fixes-bare : (p : ℕ) (ps : List ℕ) (is : List Item) → fixesAt (fixesOf p ps is) ≡ linesAt hasDistance p (bareOf is)
+fixes-bare : (p : ℕ) (ps : List ℕ) (is : List Item) → fixesAt (fixesOf p ps is) ≡ linesAt namesPlace p (bareOf is)
 unfolding fixesOf bareOf linesAt
 fixes-bare p ps [] = refl
 fixes-bare p ps (ins i ∷ is) = fixes-bare (suc p) ps is
@@ -217,7 +263,7 @@ words-bare (over h n ∷ ls) = ap {B = List ℕ} (λ r. encode (fill h (pos 0)) 
 words-bare (back rd n ∷ ls) = ap {B = List ℕ} (λ r. encode (fill (adr rd) (pos 0)) ∷ r) (words-bare ls)
 words-bare (load rt v ∷ ls) = ap {B = List ℕ} (λ r. encode (fill (ldr rt) (pos 0)) ∷ r) (words-bare ls)
 
-lines-bare : (p : ℕ) (ls : List Line) → linesAt hasDistance p (map bare ls) ≡ linesAt hasDistance p ls
+lines-bare : (p : ℕ) (ls : List Line) → linesAt namesPlace p (map bare ls) ≡ linesAt namesPlace p ls
 unfolding linesAt bare
 lines-bare p [] = refl
 lines-bare p (plain i ∷ ls) = lines-bare (suc p) ls
@@ -246,7 +292,7 @@ module _ (table : List ℕ) (c : Code top) (end : List Instr) where
   unfolding begin patchesOf
   fixes-are =
       ap fixesAt (run-fixes (wholeItems c end) (begin table)) ∙ fixes-bare 0 [] (wholeItems c end)
-      ∙ ap (linesAt hasDistance 0) (bare-whole c end) ∙ lines-bare 0 (wholeLines c end)
+      ∙ ap (linesAt namesPlace 0) (bare-whole c end) ∙ lines-bare 0 (wholeLines c end)
 
   pub walked-lent : finish s ≡ linesWords (wholeLines c end) → (n : ℕ) (lent : List ℕ) → patchAll (leads s) (take n (s .fixes)) (lay (pooledWords s) lent) ≡ lay (walkedWords n (wholeLines c end)) lent
   unfolding walkedWords
@@ -263,5 +309,5 @@ patches-computed = refl
 pub walk-computed : (walkedWords 0 three ≡ 0x14000000 ∷ 0x58000009 ∷ 0xd503201f ∷ 0xd503201f ∷ 0x33334444 ∷ 0x11112222 ∷ [])
     × (walkedWords 1 three ≡ 0x14000002 ∷ 0x58000009 ∷ 0xd503201f ∷ 0xd503201f ∷ 0x33334444 ∷ 0x11112222 ∷ [])
     × (walkedWords 2 three ≡ 0x14000002 ∷ 0x58000069 ∷ 0xd503201f ∷ 0xd503201f ∷ 0x33334444 ∷ 0x11112222 ∷ [])
-unfolding patchesOf linesAt unpatchedWords patchedIn walkedWords linesWords instrs findIn poolIn index add halves padOf baseOf
+unfolding patchesOf linesAt unpatchedWords completedAt walkedWords linesWords instrs findIn poolIn index add halves padOf baseOf
 walk-computed = (refl, refl, refl)

@@ -113,8 +113,8 @@ unfoldable pub branchesOf : List Fixup → List Fixup
 branchesOf [] = []
 branchesOf (f ∷ fs) = pickGoal (f .goal) (f ∷ branchesOf fs) (branchesOf fs)
 
-unfoldable pub finishTwice : St → List ℕ
-finishTwice s = patchAll (leads s) (branchesOf (s .fixes)) (patchAll (leads s) (entriesOf (s .fixes)) (pooledWords s))
+unfoldable pub finishInTwo : St → List ℕ
+finishInTwo s = patchAll (leads s) (branchesOf (s .fixes)) (patchAll (leads s) (entriesOf (s .fixes)) (pooledWords s))
 
 -- ---- lent room: the first elements are written, those behind stay; what does not fit is not written
 abbrev pub lay : {A : Type 0} → List A → List A → List A

@@ -1,5 +1,5 @@
 -- A block, emitted piece by piece.
-use mathlib.Core.Path.{_≡_, refl, sym, ap, ap₂, _∙_}
+use mathlib.Core.Path.{_≡_, refl, sym, ap, ap₂, subst, _∙_}
 use mathlib.Core.List.{List, [], _∷_, _++_}
 use Prim.Native.Nat.{ℕ, _≤_}
 use lib.ListN.{take, length}
@@ -9,7 +9,8 @@ use Rattle.block.specs.Block.{opsOf}
 use Rattle.block.specs.Checked.{Checked}
 use Rattle.code.specs.Items.{new, bind}
 use Rattle.code.specs.Tree.{top, Code, code, _then_, nowhere}
-use Rattle.code.specs.Walk.{walkedWords}
+use Rattle.code.specs.Walk.{walkedWords, OneWalk}
+use Rattle.code.proofs.Walk.{walked-length, one-walk}
 use Rattle.lowering.specs.Cache.{emptyCache}
 use Rattle.lowering.specs.Fragments.{stepsCode, opening, closing}
 use Rattle.lowering.specs.Steps.{Step, opsSteps, blockSteps}
@@ -24,7 +25,8 @@ use Rattle.bounds.specs.Whole.{Sited}
 use Rattle.bounds.proofs.Sites.{sited}
 use Rattle.finish.specs.Finish.{finished, finishedWords}
 use Rattle.finish.specs.Whole.{laid, told}
-use Rattle.whole.proofs.Whole.{walked-all, whole-walked, whole-told, whole-starts}
+use Rattle.finish.proofs.Join.{laid-fits}
+use Rattle.whole.proofs.Whole.{whole-walk, whole-walked, whole-told, whole-starts}
 use Rattle.lower.specs.declared.Lowered.{Lowered}
 use Rattle.lower.specs.Lowers.{atsOf, targetsOf, kept, Lowers}
 use Rattle.lower.proofs.Laws.{then-lowers}
@@ -90,6 +92,11 @@ module _ (blk : Block) (ck : Checked blk) (lent tab ws t : List ℕ) (full : len
   pub targets-are : targetsOf (r .sites) ≡ targets (blockSteps blk)
   targets-are = h .targets ∙ kept-few (targets (blockSteps blk)) (sited blk .two)
 
--- a walk of as many patches as the table holds is the whole walk
-pub all-are : (blk : Block) (ck : Checked blk) (lent : List ℕ) → laid (walkedWords fixupRoom (blockLines blk)) lent ≡ laid (blockWords blk) lent
-all-are blk ck lent = ap (λ ws. laid ws lent) (walked-all blk ck)
+-- ---- the walk, where it stops and where it ends
+pub one-walk-is : (blk : Block) (n : ℕ) (lent ws : List ℕ) → ws ≡ laid (walkedWords n (blockLines blk)) lent → length (blockWords blk) ≤ length lent → OneWalk (blockLines blk) n lent ws
+unfolding blockWords
+one-walk-is blk n lent ws e l =
+    subst (OneWalk (blockLines blk) n lent) (sym (e ∙ laid-fits (walkedWords n (blockLines blk)) lent (rw (walked-length (blockLines blk) n) l))) (one-walk (blockLines blk) lent l n)
+
+pub whole-laid : (blk : Block) (ck : Checked blk) (lent : List ℕ) → laid (walkedWords fixupRoom (blockLines blk)) lent ≡ laid (blockWords blk) lent
+whole-laid blk ck lent = ap (λ ws. laid ws lent) (whole-walk blk ck)

@@ -1,6 +1,7 @@
 // What `compile` does: the opening words, the limit test, the operations, the common exit, and the end of the assembly.
 ghost use mathlib.Core.Path.{_≡_};
 ghost use mathlib.Core.List.{map};
+ghost use Prim.Native.Nat.{_≤_};
 ghost use lib.ListN.{length};
 ghost use Rattle.block.specs.Checked.{Checked};
 ghost use Rattle.code.specs.Items.{ins as insItem, new as newItem, bind as bindItem};
@@ -72,10 +73,11 @@ fn sized(tab: &[u64; 6152])
     let whole: &[u64] = tab;
 }
 
-// `compile`, stopped behind `upto` patches: the words up to the last of these are final, those behind it as before the walk, distances 0.
+// `compile`, with the walk over the patches stopped behind the first `upto`: the words up to the last of these are final, those behind it have
+// the distance 0 still; zeros where the block does not fit.
 pub fn compile_to(out: &mut [u32], tab: &mut [u64; 6152], b: Block, upto: u32) -> Compiled
     ensures { λ r. ⌜ (Checked b → (r .finished ≡ told (blockWords b) (now (out .entry))) × (now (out .exit) ≡ laid (walkedWords upto (blockLines b)) (now (out .entry))) × (atsOf (r .sites) ≡ starts (blockCode b) 0) × (targetsOf (r .sites) ≡ targets (blockSteps b))) ⌝ }
-    ensures { λ r. ⌜ OneWalk (blockLines b) ⌝ }
+    ensures { λ r. ⌜ (Checked b → length (blockWords b) ≤ length (now (out .entry)) → OneWalk (blockLines b) upto (now (out .entry)) (now (out .exit))) ⌝ }
 {
     sized(tab);
     let q = emit(out, tab, b);

@@ -12,7 +12,7 @@ use lib.ListN.{length, getD, set, replicate, drop, drop-of-length-le, length-set
 use borrow.Author.Tests.{lt-ltb, le-ltb, ltb-true, ltb-false, ne-eqb}
 use Rattle.code.specs.Items.{dist, bytes, halves, padOf, baseOf}
 use Rattle.asm.specs.State.{labelRoom, fixupRoom, literalsAt, fixupsAt, State, atMost, kept, held, literalsFrom}
-use Rattle.finish.specs.Finish.{fieldOf, patchIn, fixOf, leadIn, patchedWith, patchedAt, patchedTo, write, zeros, written, needed, laidOut, finished, finishedWords}
+use Rattle.finish.specs.Finish.{fieldOf, patchIn, fixOf, leadIn, patchedWith, patchedAt, patchedTo, write, zeros, written, needed, beforeWalk, finished, finishedWords}
 use Rattle.finish.specs.declared.Finished.the-variants.{Words, Short}
 
 -- ---- the field of each kind
@@ -163,7 +163,7 @@ module _ (s : State) (k n base : ℕ) (ws₁ ws₂ : List ℕ) (h : Pooled s k n
   unfolding needed
   needed-is = ap₂ (λ (x y : ℕ). x + 2 * y) base-held (h .count)
 
-  words-are : ws₂ ≡ laidOut s
+  words-are : ws₂ ≡ beforeWalk s
   unfolding baseOf
   words-are =
       h .pooled ∙ ap₂ (λ (x : ℕ) (y : List ℕ). write x (halves y) ws₁) base-held held-is

@@ -13,14 +13,14 @@ use Rattle.code.specs.Items.{pick, adr, label, literal, Item, ins, go, new, bin
 use Rattle.code.specs.Emit.{kind, St, lead, pooledWords, lay}
 use Rattle.code.specs.Emit.{run as runE, start as startE, finish as finishE}
 use Rattle.code.specs.Tree.{Depth, top, Var, Code, code, lit, to, exit, block, start, _then_, inside, words, labels, jumps, after, items, nowhere, Line, wholeItems, wholeLines, poolIn, linesWords}
-use Rattle.code.specs.Walk.{patchesOf, patchedIn, walkedWords}
+use Rattle.code.specs.Walk.{patchesOf, completedAt, walkedWords}
 use Rattle.code.proofs.Emit.{raw-size, tableOf, fixesOf, run-words, run-labels, run-pool, run-fixes, placed-is, table-placed}
 use Rattle.code.proofs.Tree.{whole-once, whole-met, whole-below, whole-size, whole-pool, whole-length}
 use Rattle.code.proofs.Order.{lay-put, lay-length}
-use Rattle.code.proofs.Walk.{walked-length, one-walk, pooled-is, fixes-are, walked-lent}
+use Rattle.code.proofs.Walk.{walked-all, walked-length, pooled-is, fixes-are, walked-lent}
 use Rattle.code.proofs.Reach.{whole-reach, emitted}
 use Rattle.asm.specs.State.{labelRoom, fixupRoom, tableRoom, State, state, begin, atMost, held, run}
-use Rattle.finish.specs.Finish.{patchedTo, write, zeros, written, needed, laidOut, finished, finishedWords}
+use Rattle.finish.specs.Finish.{patchedTo, write, zeros, written, needed, beforeWalk, finished, finishedWords}
 use Rattle.finish.specs.Whole.{laid, told, countOf, Held}
 use Rattle.finish.specs.declared.Finished.the-variants.{Words, Short}
 use Rattle.finish.proofs.Cases.{halves-length}
@@ -224,7 +224,7 @@ module _ (tab : List ℕ) (full : length tab ≡ tableRoom) (c : Code top) (end 
   finish-is = emitted table c end (rw table-length (h .labels)) (h .fine) (h .sound) (h .tests) (h .short)
 
   finish-length : length (linesWords (wholeLines c end)) ≡ base + 2 * length (p .pool)
-  unfolding walkedWords patchedIn baseOf
+  unfolding walkedWords completedAt baseOf
   finish-length =
       sym (walked-length ls 0) ∙ ap length (sym (pooled-is table c end))
       ∙ length-append (p .words) (padOf (length (p .words)) (p .pool) ++ halves (p .pool))
@@ -270,31 +270,31 @@ module _ (tab : List ℕ) (full : length tab ≡ tableRoom) (c : Code top) (end 
     unfolding startE
     fixups-are = ap (atMost fixupRoom) (tracks .fixups) ∙ rw (le-ltb fixupRoom (length (p .fixes)) (omega (arith, fixes-few)))
 
-    laid-out : laidOut s ≡ lay (pooledWords p) lent
+    laid-out : beforeWalk s ≡ lay (pooledWords p) lent
     laid-out =
         ap₂ (λ (n : ℕ) (ps : List ℕ). write n (padOf n ps ++ halves ps) (s .words)) written-is (held-is lent s p tracks)
         ∙ ap (write (length (p .words)) (padOf (length (p .words)) (p .pool) ++ halves (p .pool))) (tracks .words)
         ∙ write-lay (p .words) (padOf (length (p .words)) (p .pool) ++ halves (p .pool)) lent
 
     -- THE FIRST n PATCHES in the lent words, of as many as there are
-    pub walked : (n : ℕ) → n ≤ length (p .fixes) → patchedTo (s .tab) (baseOf (written s) (held s)) n (laidOut s) ≡ lay (walkedWords n ls) lent
+    pub walked : (n : ℕ) → n ≤ length (p .fixes) → patchedTo (s .tab) (baseOf (written s) (held s)) n (beforeWalk s) ≡ lay (walkedWords n ls) lent
     walked n m =
         ap₂ (λ (x : ℕ) (ws : List ℕ). patchedTo (s .tab) x n ws) base-is laid-out
         ∙ walk (s .tab) (p .labels) base (tracks .labels) (p .fixes) n (lay (pooledWords p) lent) m goods-are (tracks .fixes)
         ∙ walked-lent table c end finish-is n lent
 
-    words-are : (n : ℕ) → patchedTo (s .tab) (baseOf (written s) (held s)) (atMost fixupRoom (atMost (s .asm .fixups) n)) (laidOut s) ≡ lay (walkedWords n ls) lent
+    words-are : (n : ℕ) → patchedTo (s .tab) (baseOf (written s) (held s)) (atMost fixupRoom (atMost (s .asm .fixups) n)) (beforeWalk s) ≡ lay (walkedWords n ls) lent
     words-are n = by (ltb (s .asm .fixups) n) refl
       where
-        by : (t : Bool) → ltb (s .asm .fixups) n ≡ t → patchedTo (s .tab) (baseOf (written s) (held s)) (atMost fixupRoom (pick t (s .asm .fixups) n)) (laidOut s) ≡ lay (walkedWords n ls) lent
+        by : (t : Bool) → ltb (s .asm .fixups) n ≡ t → patchedTo (s .tab) (baseOf (written s) (held s)) (atMost fixupRoom (pick t (s .asm .fixups) n)) (beforeWalk s) ≡ lay (walkedWords n ls) lent
         by true e =
             let l : length (patchesOf ls) ≤ n = omega (arith, ltb-true (s .asm .fixups) n e, tracks .fixups, patches-fixes c end table) in
-            ap (λ m. patchedTo (s .tab) (baseOf (written s) (held s)) m (laidOut s)) fixups-are
+            ap (λ m. patchedTo (s .tab) (baseOf (written s) (held s)) m (beforeWalk s)) fixups-are
             ∙ walked (length (p .fixes)) (omega arith)
-            ∙ ap (λ ws. lay ws lent) (one-walk ls .all (length (p .fixes)) (omega (arith, patches-fixes c end table)) ∙ sym (one-walk ls .all n l))
+            ∙ ap (λ ws. lay ws lent) (walked-all ls (length (p .fixes)) (omega (arith, patches-fixes c end table)) ∙ sym (walked-all ls n l))
         by false e =
             let l : n ≤ length (p .fixes) = omega (arith, ltb-false (s .asm .fixups) n e, tracks .fixups) in
-            ap (λ m. patchedTo (s .tab) (baseOf (written s) (held s)) m (laidOut s)) (rw (le-ltb fixupRoom n (omega (arith, fixes-few)))) ∙ walked n l
+            ap (λ m. patchedTo (s .tab) (baseOf (written s) (held s)) m (beforeWalk s)) (rw (le-ltb fixupRoom n (omega (arith, fixes-few)))) ∙ walked n l
 
     -- THE LENT WORDS ARE THE BLOCK'S BEHIND SO MANY PATCHES, or zeros, and the answer tells how many
     pub finished-block : ((n : ℕ) → finishedWords n s ≡ laid (walkedWords n ls) lent) × (finished s ≡ told (linesWords ls) lent)
@@ -303,6 +303,11 @@ module _ (tab : List ℕ) (full : length tab ≡ tableRoom) (c : Code top) (end 
       λ n. pick-same (length (s .words)) (length lent) (needed s) (length (walkedWords n ls)) _ _ _ _ room-is (needed-is ∙ sym (walked-length ls n)) (ap (λ n. replicate n 0) room-is) (words-are n),
       pick-same (length (s .words)) (length lent) (needed s) (length (linesWords ls)) _ _ _ _ room-is needed-is (ap Short needed-is) (ap Words needed-is),
     )
+
+-- words that fit are laid
+pub laid-fits : (ws lent : List ℕ) → length ws ≤ length lent → laid ws lent ≡ lay ws lent
+unfolding laid
+laid-fits ws lent h = rw (le-ltb (length lent) (length ws) h)
 
 -- whatever is lent, the number told is that of the words
 pub count-told : (ws lent : List ℕ) → countOf (told ws lent) ≡ length ws

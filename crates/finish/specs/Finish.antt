@@ -65,11 +65,11 @@ unfoldable pub finished : State → Finished
 finished s = pick (ltb (length (s .words)) (needed s)) (Short (needed s)) (Words (needed s))
 
 -- before the walk: the pool behind the words
-abbrev pub laidOut : State → List ℕ
-laidOut s = write (written s) (padOf (written s) (held s) ++ halves (held s)) (s .words)
+abbrev pub beforeWalk : State → List ℕ
+beforeWalk s = write (written s) (padOf (written s) (held s) ++ halves (held s)) (s .words)
 
 -- behind the first n patches, or behind all where there are fewer
 unfoldable pub finishedWords : ℕ → State → List ℕ
 finishedWords n s =
     pick (ltb (length (s .words)) (needed s)) (zeros (s .words))
-    (patchedTo (s .tab) (baseOf (written s) (held s)) (atMost fixupRoom (atMost (s .asm .fixups) n)) (laidOut s))
+    (patchedTo (s .tab) (baseOf (written s) (held s)) (atMost fixupRoom (atMost (s .asm .fixups) n)) (beforeWalk s))

@@ -129,8 +129,8 @@ fn patch_one(words: &mut [u32], tab: &[u64; asm::TABLE], base: u32, n: u32)
     patch_at(words, at, f);
 }
 
-// The first `upto` fix-ups of the table, in one walk: their positions rise, so that the words up to the last of them are final then and those behind it as
-// before (code, `OneWalk`). The Rust patches the literal references first, with the same words (code, `two-walks`).
+// The first `upto` fix-ups of the table, from number 0 on, each added to its word. Of a table that a block's code filled the positions rise (code,
+// `OneWalk`). The Rust patches the literal references first, with the same words (code, `two-walks`).
 pub fn patch_to(words: &mut [u32], tab: &[u64; asm::TABLE], base: u32, upto: u32)
     ensures { λ r. ⌜ now (words .exit) ≡ patchedTo (now (tab .entry)) base (atMost fixupRoom upto) (now (words .entry)) ⌝ }
 {
@@ -182,8 +182,8 @@ pub fn zero(words: &mut [u32])
     }
 }
 
-// The lent words are the block's behind the first `upto` patches, or behind all where there are fewer, with those beyond the block untouched; or all 0
-// where they are too few.
+// The lent words are the block's behind the first `upto` patches, or behind all where there are fewer, with those beyond the block
+// untouched; or all 0 where they are too few.
 pub fn finish(words: &mut [u32], tab: &[u64; asm::TABLE], a: Asm, upto: u32) -> Finished
     ensures { λ r. ⌜ (r ≡ finished (state (now (words .entry)) (now (tab .entry)) a)) × (now (words .exit) ≡ finishedWords upto (state (now (words .entry)) (now (tab .entry)) a)) ⌝ }
 {

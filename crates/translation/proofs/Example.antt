@@ -10,7 +10,7 @@ use Rattle.record.specs.declared.Reading.{Reading}
 use Rattle.record.specs.Record.{nop, num16, num32, num64, fieldFault, layoutFault, regionFault, memoryFault, startFault, contentsFault, operationOf, operationFault, operations, header, refusedOr, layoutField, memoryField, addressesField, startField, reading}
 use Rattle.code.specs.Items.{index, add, halves, padOf, baseOf}
 use Rattle.code.specs.Tree.{Line, words, lines, instrs, wholeLines, poolIn, findIn, linesWords}
-use Rattle.code.specs.Walk.{linesAt, patchesOf, unpatchedWords, patchedIn, walkedWords}
+use Rattle.code.specs.Walk.{linesAt, patchesOf, unpatchedWords, completedAt, walkedWords}
 use Rattle.lowering.specs.Instrs.{mov32}
 use Rattle.lowering.specs.Cache.{flushFrom, flush}
 use Rattle.lowering.specs.Steps.{opsSteps, blockSteps}
@@ -85,7 +85,8 @@ pub needs-35 : wordsNeeded record-bytes ≡ takes 35
 unfolding wordsNeeded needBehind
 needs-35 = ap (λ (r : Reading). needBehind (r .answer) (reading record-bytes .block)) read-is ∙ ap (λ ws. takes (length ws)) words-are
 
--- ---- 2026-02: the limit test's branch, the exit's, the chain site's, the site's address, the exit's; and the words where the walk stops behind two of them
+-- ---- the walk over the patches: the limit test's branch, the exit's, the chain site's, the site's address, the exit's; and the words where it stops
+-- behind two of them
 abbrev block-lines : List Line
 block-lines = blockLines (reading record-bytes .block)
 
@@ -101,5 +102,5 @@ pub walked-2 : walkedWords 2 block-lines ≡
     ∷ 0x1100035a ∷ 0x14000000 ∷ 0x52a04009 ∷ 0xb9004a69 ∷ 0x1000000a
     ∷ 0xf900128a ∷ 0x2a1a03e0 ∷ 0x14000000 ∷ 0xa94573fb ∷ 0xa9446bf9
     ∷ 0xa94363f7 ∷ 0xa9425bf5 ∷ 0xa94153f3 ∷ 0xa8c67bfd ∷ 0xd65f03c0 ∷ []
-unfolding blockLines blockCode chain exitImm limit stepCode stepCache stepsCode opening closing flushFrom flush mov32 opsSteps blockSteps index add halves padOf baseOf words lines instrs wholeLines poolIn findIn linesWords patchesOf linesAt unpatchedWords patchedIn walkedWords
+unfolding blockLines blockCode chain exitImm limit stepCode stepCache stepsCode opening closing flushFrom flush mov32 opsSteps blockSteps index add halves padOf baseOf words lines instrs wholeLines poolIn findIn linesWords patchesOf linesAt unpatchedWords completedAt walkedWords
 walked-2 = ap (λ (r : Reading). walkedWords 2 (blockLines (r .block))) read-is

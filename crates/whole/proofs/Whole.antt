@@ -11,7 +11,7 @@ use Rattle.code.specs.Tree.{Depth, top, Var, Code, code, Fine, nowhere, words, 
 use Rattle.code.specs.Lent.{calls}
 use Rattle.code.specs.Walk.{walkedWords}
 use Rattle.code.proofs.Tree.{whole-size, whole-length}
-use Rattle.code.proofs.Walk.{one-walk}
+use Rattle.code.proofs.Walk.{walked-all}
 use Rattle.lowering.specs.Fragments.{closing}
 use Rattle.lowering.specs.Compile.{blockCode, blockLines, blockWords, starts}
 use Rattle.asm.specs.State.{fixupRoom, tableRoom, State, state, begin, put, made, run, after}
@@ -46,10 +46,10 @@ module _ (blk : Block) (ck : Checked blk) where
         short = k .short;
       }
 
-  -- THE WALK TO ITS END, which the table holds
-  pub walked-all : walkedWords fixupRoom (blockLines blk) ≡ blockWords blk
+  -- A WALK OF AS MANY PATCHES AS THE TABLE HOLDS is the whole walk
+  pub whole-walk : walkedWords fixupRoom (blockLines blk) ≡ blockWords blk
   unfolding blockWords blockLines
-  walked-all = one-walk (blockLines blk) .all fixupRoom (omega (arith, patches-jumps (blockCode blk) closing, held .jumps))
+  whole-walk = walked-all (blockLines blk) fixupRoom (omega (arith, patches-jumps (blockCode blk) closing, held .jumps))
 
   module _ (lent tab : List ℕ) (s₁ : State) (p : s₁ ≡ put new (state lent tab begin)) where
     module _ (full : length tab ≡ tableRoom) (s₂ s₃ s₄ : State) (q : s₂ ≡ afterT (blockCode blk) nowhere 0 s₁) (r : s₃ ≡ put (bind 0) s₂) (t : s₄ ≡ emitted closing s₃) where
