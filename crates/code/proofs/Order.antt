@@ -1,5 +1,5 @@
--- The patches in one walk or in the Rust's two give the same words; each patch of the walk leaves the final word in its place; and the same in
--- lent room.
+-- The patches in one walk or in the Rust's two give the same words; each patch of the walk leaves the final word in its place; and the
+-- same in lent room.
 use mathlib.Core.Path.{_≡_, refl, sym, ap, ap₂, subst, _∙_}
 use mathlib.Core.Logic.{_≢_}
 use mathlib.Core.Bool.{Bool, true, false}

@@ -58,8 +58,9 @@ walkedWords n ls = completedAt (take n (patchesOf ls)) (linesWords ls) (unpatche
 abbrev pub nthPatch : List Line → ℕ → ℕ
 nthPatch ls n = getD (patchesOf ls) n 0
 
--- "patch in one walk by rising word position: after each patch the words up to it are final, those behind it as before the walk. Every word ..
--- remains". Of words `ws`, in a room that held `lent` and is large enough, behind the first n patches: no word is patched twice, and none of the pool
+-- "patch in one walk by rising word position: after each patch the words up to it are final, those behind it as before the walk. Every
+-- word .. remains". Of words `ws` behind the first n patches, in a room that held `lent` and is large enough. No word is patched twice,
+-- and none of the pool.
 pub record OneWalk (ls : List Line) (n : ℕ) (lent ws : List ℕ) : Type 0 where
   pub rising : Rise 0 (length ls) (patchesOf ls)
   pub first : n ≡ 0 → ws ≡ lay (unpatchedWords ls) lent

@@ -73,8 +73,8 @@ fn sized(tab: &[u64; 6152])
     let whole: &[u64] = tab;
 }
 
-// `compile`, with the walk over the patches stopped behind the first `upto`: the words up to the last of these are final, those behind it have
-// the distance 0 still; zeros where the block does not fit.
+// `compile`, with the walk over the patches stopped behind the first `upto`: the words up to the last of these are final, those behind it
+// have the distance 0 still; zeros where the block does not fit.
 pub fn compile_to(out: &mut [u32], tab: &mut [u64; 6152], b: Block, upto: u32) -> Compiled
     ensures { λ r. ⌜ (Checked b → (r .finished ≡ told (blockWords b) (now (out .entry))) × (now (out .exit) ≡ laid (walkedWords upto (blockLines b)) (now (out .entry))) × (atsOf (r .sites) ≡ starts (blockCode b) 0) × (targetsOf (r .sites) ≡ targets (blockSteps b))) ⌝ }
     ensures { λ r. ⌜ (Checked b → length (blockWords b) ≤ length (now (out .entry)) → OneWalk (blockLines b) upto (now (out .entry)) (now (out .exit))) ⌝ }

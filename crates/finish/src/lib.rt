@@ -129,8 +129,8 @@ fn patch_one(words: &mut [u32], tab: &[u64; asm::TABLE], base: u32, n: u32)
     patch_at(words, at, f);
 }
 
-// The first `upto` fix-ups of the table, from number 0 on, each added to its word. Of a table that a block's code filled the positions rise (code,
-// `OneWalk`). The Rust patches the literal references first, with the same words (code, `two-walks`).
+// The first `upto` fix-ups of the table, from number 0 on, each added to its word. Of a table that a block's code filled the positions
+// rise (code, `OneWalk`). The Rust patches the literal references first, with the same words (code, `two-walks`).
 pub fn patch_to(words: &mut [u32], tab: &[u64; asm::TABLE], base: u32, upto: u32)
     ensures { λ r. ⌜ now (words .exit) ≡ patchedTo (now (tab .entry)) base (atMost fixupRoom upto) (now (words .entry)) ⌝ }
 {

@@ -85,8 +85,8 @@ pub needs-35 : wordsNeeded record-bytes ≡ takes 35
 unfolding wordsNeeded needBehind
 needs-35 = ap (λ (r : Reading). needBehind (r .answer) (reading record-bytes .block)) read-is ∙ ap (λ ws. takes (length ws)) words-are
 
--- ---- the walk over the patches: the limit test's branch, the exit's, the chain site's, the site's address, the exit's; and the words where it stops
--- behind two of them
+-- ---- the walk over the patches: the limit test's branch, the exit's, the chain site's, the site's address, the exit's; and the words where
+-- it stops behind two of them
 abbrev block-lines : List Line
 block-lines = blockLines (reading record-bytes .block)
 
