@@ -12,7 +12,8 @@ use borrow.Author.Tests.{ltb-true, ltb-false}
 use lib.ListN.{length, getD, set, take, drop, length-append, length-set}
 use lib.Seq.{getD-set-same, getD-set-other, getD-take, set-comm, take-set-le, set-out, take-suc}
 use Rattle.code.specs.Items.{Hole, Place, label, literal, Item, ins, go, new, bind, dist, size, index, add, halves, padOf, Rise}
-use Rattle.code.specs.Emit.{Fix, kind, patch, Goal, toLabel, toEntry, Fixup, patchedWord, patched, patchAll, pooledWords, leads, fixesAt, pickGoal, entriesOf, branchesOf, lay, St, run, start, finish, finishInTwo}
+use Rattle.code.specs.Emit.{Fix, kind, patch, Goal, toLabel, toEntry, Fixup, patchedWord, patched, patchAll, pooledWords, leads, fixesAt}
+use Rattle.code.specs.Emit.{pickGoal, entriesOf, branchesOf, lay, St, run, start, finish, finishInTwo}
 use Rattle.code.specs.Walk.{completedAt}
 use Rattle.code.proofs.Emit.{raw, raw-size, fixesOf, run-words, run-fixes}
 
@@ -47,10 +48,12 @@ module _ (to : Goal → ℕ) where
       ∙ ap (λ w. set (set ws (g .at) c) (f .at) ((w + patch (f .field) (dist (to (f .goal)) (f .at))) % 2 ^ 32)) (sym (getD-set-other ws (g .at) (f .at) c 0 n))
 
   -- a patch before all of a list of later ones, or behind them
-  past : (p q : ℕ) (f : Fixup) (gs : List Fixup) (ws : List ℕ) → f .at < p → Rise p q (fixesAt gs) → patchAll to gs (patched to f ws) ≡ patched to f (patchAll to gs ws)
+  past : (p q : ℕ) (f : Fixup) (gs : List Fixup) (ws : List ℕ) → f .at < p → Rise p q (fixesAt gs)
+      → patchAll to gs (patched to f ws) ≡ patched to f (patchAll to gs ws)
   unfolding patchAll
   past p q f [] ws h r = refl
-  past p q f (g ∷ gs) ws h r = ap (patchAll to gs) (swap f g ws (omega (arith, r .0))) ∙ past (suc (g .at)) q f gs (patched to g ws) (omega (arith, r .0)) (r .1)
+  past p q f (g ∷ gs) ws h r =
+      ap (patchAll to gs) (swap f g ws (omega (arith, r .0))) ∙ past (suc (g .at)) q f gs (patched to g ws) (omega (arith, r .0)) (r .1)
 
   rising-entries : (p q : ℕ) (fs : List Fixup) → Rise p q (fixesAt fs) → Rise p q (fixesAt (entriesOf fs))
   unfolding entriesOf
@@ -62,14 +65,17 @@ module _ (to : Goal → ℕ) where
       by s (toEntry i) = (r .0, s)
 
   -- the Rust's order and one walk by rising position give the same words
-  one-or-two : (p q : ℕ) (fs : List Fixup) (ws : List ℕ) → Rise p q (fixesAt fs) → patchAll to (branchesOf fs) (patchAll to (entriesOf fs) ws) ≡ patchAll to fs ws
+  one-or-two : (p q : ℕ) (fs : List Fixup) (ws : List ℕ) → Rise p q (fixesAt fs)
+      → patchAll to (branchesOf fs) (patchAll to (entriesOf fs) ws) ≡ patchAll to fs ws
   unfolding patchAll branchesOf entriesOf
   one-or-two p q [] ws r = refl
   one-or-two p q (f ∷ fs) ws r = by (one-or-two (suc (f .at)) q fs (patched to f ws) (r .1)) (f .goal)
     where
       by : patchAll to (branchesOf fs) (patchAll to (entriesOf fs) (patched to f ws)) ≡ patchAll to fs (patched to f ws) → (g : Goal)
           → patchAll to (pickGoal g (f ∷ branchesOf fs) (branchesOf fs)) (patchAll to (pickGoal g (entriesOf fs) (f ∷ entriesOf fs)) ws) ≡ patchAll to fs (patched to f ws)
-      by e (toLabel l) = ap (patchAll to (branchesOf fs)) (sym (past (suc (f .at)) q f (entriesOf fs) ws (omega arith) (rising-entries (suc (f .at)) q fs (r .1)))) ∙ e
+      by e (toLabel l) =
+          let s : Rise (suc (f .at)) q (fixesAt (entriesOf fs)) = rising-entries (suc (f .at)) q fs (r .1) in
+          ap (patchAll to (branchesOf fs)) (sym (past (suc (f .at)) q f (entriesOf fs) ws (omega arith) s)) ∙ e
       by e (toEntry i) = e
 
   -- later patches leave the words before them
@@ -77,10 +83,12 @@ module _ (to : Goal → ℕ) where
   unfolding patchAll patched
   later p q [] ws r = refl
   later p q (f ∷ fs) ws r =
-      later p q fs (patched to f ws) (rise-from p (suc (f .at)) q (fixesAt fs) (omega (arith, r .0)) (r .1)) ∙ take-set-le p ws (f .at) (patchedWord to f ws) (r .0)
+      later p q fs (patched to f ws) (rise-from p (suc (f .at)) q (fixesAt fs) (omega (arith, r .0)) (r .1))
+      ∙ take-set-le p ws (f .at) (patchedWord to f ws) (r .0)
 
   -- a patch leaves the final word in its place
-  patch-final : (p q : ℕ) (f : Fixup) (fs : List Fixup) (ws : List ℕ) → q ≤ length ws → Rise p q (fixesAt (f ∷ fs)) → patched to f ws ≡ set ws (f .at) (getD (patchAll to fs (patched to f ws)) (f .at) 0)
+  patch-final : (p q : ℕ) (f : Fixup) (fs : List Fixup) (ws : List ℕ) → q ≤ length ws → Rise p q (fixesAt (f ∷ fs))
+      → patched to f ws ≡ set ws (f .at) (getD (patchAll to fs (patched to f ws)) (f .at) 0)
   unfolding patched
   patch-final p q f fs ws l r =
       let v : ℕ = patchedWord to f ws in
@@ -92,7 +100,8 @@ module _ (to : Goal → ℕ) where
       ∙ getD-take (suc (f .at)) ws′ (f .at) 0 (omega arith))
 
   -- THE FIRST n PATCHES OF THE ASSEMBLER are those of a walk over their positions
-  patches-walk : (p q n : ℕ) (fs : List Fixup) (ws : List ℕ) → q ≤ length ws → Rise p q (fixesAt fs) → patchAll to (take n fs) ws ≡ completedAt (take n (fixesAt fs)) (patchAll to fs ws) ws
+  patches-walk : (p q n : ℕ) (fs : List Fixup) (ws : List ℕ) → q ≤ length ws → Rise p q (fixesAt fs)
+      → patchAll to (take n fs) ws ≡ completedAt (take n (fixesAt fs)) (patchAll to fs ws) ws
   unfolding patchAll completedAt patched
   patches-walk p q zero fs ws l r = refl
   patches-walk p q (suc n) [] ws l r = refl
@@ -154,7 +163,8 @@ lay-patched to f ws lent h = by (ltb (f .at) (length lent)) refl
         let o : length (lay ws lent) ≤ f .at = rw (lay-length ws lent) (ltb-false (f .at) (length lent) e) in
         set-out (lay ws lent) (f .at) (new (getD (lay ws lent) (f .at) 0)) o ∙ sym (set-out (lay ws lent) (f .at) (new (getD ws (f .at) 0)) o) ∙ lay-set ws lent (f .at) (new (getD ws (f .at) 0)) h
 
-lay-first : (to : Goal → ℕ) (p q n : ℕ) (fs : List Fixup) (ws lent : List ℕ) → q ≤ length ws → Rise p q (fixesAt fs) → patchAll to (take n fs) (lay ws lent) ≡ lay (patchAll to (take n fs) ws) lent
+lay-first : (to : Goal → ℕ) (p q n : ℕ) (fs : List Fixup) (ws lent : List ℕ) → q ≤ length ws → Rise p q (fixesAt fs)
+    → patchAll to (take n fs) (lay ws lent) ≡ lay (patchAll to (take n fs) ws) lent
 unfolding patchAll patched
 lay-first to p q zero fs ws lent l r = refl
 lay-first to p q (suc n) [] ws lent l r = refl
@@ -169,9 +179,10 @@ module _ (table : List ℕ) (is : List Item) where
 
   rising-run : Rise 0 (length (pooledWords s)) (fixesAt (s .fixes))
   unfolding start
-  rising-run =
-      rw (run-fixes is (start table))
-      (rising 0 (length (pooledWords s)) [] is (rw (run-words is (start table), length-append (raw is) (padOf (length (raw is)) (s .pool) ++ halves (s .pool)), raw-size is) (omega arith)))
+  rising-run = rw (run-fixes is (start table)) (rising 0 (length (pooledWords s)) [] is size-le)
+    where
+      size-le : 0 + size is ≤ length (pooledWords s)
+      size-le = rw (run-words is (start table), length-append (raw is) (padOf (length (raw is)) (s .pool) ++ halves (s .pool)), raw-size is) (omega arith)
 
   -- THE RUST'S TWO WALKS leave the same words
   pub two-walks : finishInTwo s ≡ finish s
@@ -179,7 +190,8 @@ module _ (table : List ℕ) (is : List Item) where
   two-walks = one-or-two (leads s) 0 (length (pooledWords s)) (s .fixes) (pooledWords s) rising-run
 
   -- THE WALK IN THE LENT WORDS: behind its first n patches, with no condition on the room
-  pub walk-lent : (n : ℕ) (lent : List ℕ) → patchAll (leads s) (take n (s .fixes)) (lay (pooledWords s) lent) ≡ lay (completedAt (take n (fixesAt (s .fixes))) (finish s) (pooledWords s)) lent
+  pub walk-lent : (n : ℕ) (lent : List ℕ)
+      → patchAll (leads s) (take n (s .fixes)) (lay (pooledWords s) lent) ≡ lay (completedAt (take n (fixesAt (s .fixes))) (finish s) (pooledWords s)) lent
   unfolding finish
   walk-lent n lent =
       lay-first (leads s) 0 (length (pooledWords s)) n (s .fixes) (pooledWords s) lent (omega arith) rising-run

@@ -10,11 +10,13 @@ use lib.ListN.{length, getD, set, take, drop, length-append, length-map, length-
 use lib.Seq.{take-all, take-append-le, drop-append-le, take-set-le, drop-set-lt, append-snoc, set-at, getD-at}
 use Rattle.arm.specs.declared.Instr.{Instr}
 use Rattle.arm.specs.Instr.{encode}
-use Rattle.code.specs.Items.{pick, b, adr, ldr, fill, label, literal, Item, ins, go, new, bind, index, add, halves, padOf, baseOf, Rise}
-use Rattle.code.specs.Tree.{Depth, top, Var, Code, code, lit, to, exit, block, start, _then_, inside, words, lines, after, items, nowhere, wholeItems, wholeLines, Line, plain, over, back, load, instrs, poolIn, findIn, linesWords}
+use Rattle.code.specs.Items.{pick, b, adr, ldr, fill, label, literal, Item, ins, go, new, bind}
+use Rattle.code.specs.Items.{index, add, halves, padOf, baseOf, Rise}
+use Rattle.code.specs.Tree.{Depth, top, Var, Code, code, lit, to, exit, block, start, _then_, inside, words, lines, after, items}
+use Rattle.code.specs.Tree.{nowhere, wholeItems, wholeLines, Line, plain, over, back, load, instrs, poolIn, findIn, linesWords}
 use Rattle.code.specs.Emit.{St, patchAll, pooledWords, leads, fixesAt, run, finish, lay}
 use Rattle.code.specs.Emit.{start as begin}
-use Rattle.code.specs.Walk.{namesPlace, linesAt, patchesOf, unpatched, unpatchedWords, completedAt, walkedWords, nthPatch, OneWalk}
+use Rattle.code.specs.Walk.{namesPlace, linesAt, patchesOf, unpatched, unpatchedWords, completedAt, walkedWords, upTo, OneWalk}
 use Rattle.code.proofs.Emit.{raw, fixesOf, run-words, run-pool, run-fixes}
 use Rattle.code.proofs.Tree.{whole-pool}
 use Rattle.code.proofs.Order.{rise-le, rise-from, lay-fits, walk-lent}
@@ -55,12 +57,16 @@ module _ (final : List ℕ) where
   kept-before : (p q : ℕ) (ps ws : List ℕ) → Rise p q ps → take p (completedAt ps final ws) ≡ take p ws
   unfolding completedAt
   kept-before p q [] ws r = refl
-  kept-before p q (x ∷ ps) ws r = kept-before p q ps (set ws x (getD final x 0)) (rise-from p (suc x) q ps (omega (arith, r .0)) (r .1)) ∙ take-set-le p ws x (getD final x 0) (r .0)
+  kept-before p q (x ∷ ps) ws r =
+      kept-before p q ps (set ws x (getD final x 0)) (rise-from p (suc x) q ps (omega (arith, r .0)) (r .1))
+      ∙ take-set-le p ws x (getD final x 0) (r .0)
 
   kept-behind : (p q : ℕ) (ps ws : List ℕ) → Rise p q ps → drop q (completedAt ps final ws) ≡ drop q ws
   unfolding completedAt
   kept-behind p q [] ws r = refl
-  kept-behind p q (x ∷ ps) ws r = kept-behind (suc x) q ps (set ws x (getD final x 0)) (r .1) ∙ drop-set-lt q ws x (getD final x 0) (rise-le (suc x) q ps (r .1))
+  kept-behind p q (x ∷ ps) ws r =
+      kept-behind (suc x) q ps (set ws x (getD final x 0)) (r .1)
+      ∙ drop-set-lt q ws x (getD final x 0) (rise-le (suc x) q ps (r .1))
 
 -- ---- all patches leave the lines' words
 abbrev bareWords : List Line → List ℕ
@@ -74,7 +80,9 @@ abbrev bareIn : List Line → (pre post : List ℕ) → List ℕ
 bareIn ls pre post = pre ++ (bareWords ls ++ post)
 
 Completed : (ℕ → ℕ) → ℕ → List Line → Type 0
-Completed find p ls = (pre post : List ℕ) → length pre ≡ p → completedAt (linesAt namesPlace p ls) (finalIn find p ls pre post) (bareIn ls pre post) ≡ finalIn find p ls pre post
+Completed find p ls =
+    (pre post : List ℕ) → length pre ≡ p
+    → completedAt (linesAt namesPlace p ls) (finalIn find p ls pre post) (bareIn ls pre post) ≡ finalIn find p ls pre post
 
 module _ (find : ℕ → ℕ) (p : ℕ) (ls : List Line) (rec : Completed find (suc p) ls) (pre post : List ℕ) (e : length pre ≡ p) where
   abbrev rest : List ℕ
@@ -94,7 +102,8 @@ module _ (find : ℕ → ℕ) (p : ℕ) (ls : List Line) (rec : Completed find (
   one : (w v : ℕ) → completedAt (p ∷ linesAt namesPlace (suc p) ls) (pre ++ (w ∷ rest)) (pre ++ (v ∷ bare-rest)) ≡ pre ++ (w ∷ rest)
   unfolding completedAt
   one w v =
-      ap (completedAt (linesAt namesPlace (suc p) ls) (pre ++ (w ∷ rest))) (ap (set (pre ++ (v ∷ bare-rest)) p) (getD-at pre w rest 0 p e) ∙ set-at pre v bare-rest w p e)
+      ap (completedAt (linesAt namesPlace (suc p) ls) (pre ++ (w ∷ rest)))
+      (ap (set (pre ++ (v ∷ bare-rest)) p) (getD-at pre w rest 0 p e) ∙ set-at pre v bare-rest w p e)
       ∙ behind w
 
 completed : (find : ℕ → ℕ) (p : ℕ) (ls : List Line) → Completed find p ls
@@ -129,7 +138,7 @@ module _ (ls : List Line) where
   -- behind patch number m
   module _ (m : ℕ) (h : m < length (patchesOf ls)) where
     abbrev q : ℕ
-    q = suc (nthPatch ls m)
+    q = upTo ls m
 
     in-words : q ≤ length (linesWords ls)
     unfolding unpatchedWords
@@ -154,7 +163,9 @@ module _ (ls : List Line) where
 
     from-there : drop q (walkedWords (suc m) ls) ≡ drop q (unpatchedWords ls)
     unfolding walkedWords
-    from-there = kept-behind (linesWords ls) 0 q (take (suc m) (patchesOf ls)) (unpatchedWords ls) (rise-take 0 (length ls) (patchesOf ls) m h rises)
+    from-there =
+        let ps : List ℕ = patchesOf ls in
+        kept-behind (linesWords ls) 0 q (take (suc m) ps) (unpatchedWords ls) (rise-take 0 (length ls) ps m h rises)
 
 -- ---- in a room that is large enough
 lay-take : (k : ℕ) (xs lent : List ℕ) → k ≤ length xs → length xs ≤ length lent → take k (lay xs lent) ≡ take k xs
@@ -165,18 +176,19 @@ lay-drop k xs lent h l = ap (drop k) (lay-fits xs lent l) ∙ drop-append-le k x
 
 -- THE WALK IN A LENT ROOM
 module _ (ls : List Line) (lent : List ℕ) (fits : length (linesWords ls) ≤ length lent) where
-  stopped-final : (m : ℕ) (h : m < length (patchesOf ls)) → take (suc (nthPatch ls m)) (lay (walkedWords (suc m) ls) lent) ≡ take (suc (nthPatch ls m)) (linesWords ls)
+  stopped-final : (m : ℕ) (h : m < length (patchesOf ls)) → take (upTo ls m) (lay (walkedWords (suc m) ls) lent) ≡ take (upTo ls m) (linesWords ls)
   stopped-final m h =
       let e : length (walkedWords (suc m) ls) ≡ length (linesWords ls) = walked-length ls (suc m) in
-      lay-take (suc (nthPatch ls m)) (walkedWords (suc m) ls) lent (omega (arith, in-words ls m h)) (omega arith) ∙ up-to ls m h
+      lay-take (upTo ls m) (walkedWords (suc m) ls) lent (omega (arith, in-words ls m h)) (omega arith) ∙ up-to ls m h
 
-  stopped-before : (m : ℕ) (h : m < length (patchesOf ls)) → drop (suc (nthPatch ls m)) (lay (walkedWords (suc m) ls) lent) ≡ drop (suc (nthPatch ls m)) (lay (unpatchedWords ls) lent)
+  stopped-before : (m : ℕ) (h : m < length (patchesOf ls))
+      → drop (upTo ls m) (lay (walkedWords (suc m) ls) lent) ≡ drop (upTo ls m) (lay (unpatchedWords ls) lent)
   stopped-before m h =
       let e : length (walkedWords (suc m) ls) ≡ length (unpatchedWords ls) = walked-length ls (suc m) ∙ sym (bare-length ls) in
       let f : length (unpatchedWords ls) ≡ length (linesWords ls) = bare-length ls in
-      lay-drop (suc (nthPatch ls m)) (walkedWords (suc m) ls) lent (omega (arith, in-words ls m h)) (omega arith)
+      lay-drop (upTo ls m) (walkedWords (suc m) ls) lent (omega (arith, in-words ls m h)) (omega arith)
       ∙ ap₂ (λ (xs : List ℕ) (n : ℕ). xs ++ drop n lent) (from-there ls m h) e
-      ∙ sym (lay-drop (suc (nthPatch ls m)) (unpatchedWords ls) lent (omega (arith, in-words ls m h)) (omega arith))
+      ∙ sym (lay-drop (upTo ls m) (unpatchedWords ls) lent (omega (arith, in-words ls m h)) (omega arith))
 
   pub one-walk : (n : ℕ) → OneWalk ls n lent (lay (walkedWords n ls) lent)
   unfolding walkedWords completedAt
@@ -222,9 +234,12 @@ bare-items (code is) e x l d y = bare-ins is
 bare-items (lit rt v) e x l d y = refl
 bare-items (to h v) e x l d y = refl
 bare-items (exit h) e x l d y = refl
-bare-items (block c) e x l d y = bare-append (items c (inside l e) x (suc l)) (bind l ∷ []) ∙ append-nil (bareOf (items c (inside l e) x (suc l))) ∙ bare-items c (inside l e) x (suc l) (inside 0 d) y
+bare-items (block c) e x l d y =
+    bare-append (items c (inside l e) x (suc l)) (bind l ∷ []) ∙ append-nil (bareOf (items c (inside l e) x (suc l)))
+    ∙ bare-items c (inside l e) x (suc l) (inside 0 d) y
 bare-items (start rd c) e x l d y =
-    bare-append (items c e x (suc l)) (go (adr rd) (label l) ∷ []) ∙ ap (λ r. r ++ (over (adr rd) 0 ∷ [])) (bare-items c e x (suc l) (λ v. suc (d v)) (suc y))
+    bare-append (items c e x (suc l)) (go (adr rd) (label l) ∷ [])
+    ∙ ap (λ r. r ++ (over (adr rd) 0 ∷ [])) (bare-items c e x (suc l) (λ v. suc (d v)) (suc y))
     ∙ sym (map-append bare (lines c (λ v. suc (d v)) (suc y)) (back rd (words c) ∷ []))
 bare-items (c then k) e x l d y =
     bare-append (items c e x l) (items k e x (after c l))
@@ -234,7 +249,8 @@ bare-items (c then k) e x l d y =
 bare-whole : (c : Code top) (end : List Instr) → bareOf (wholeItems c end) ≡ map bare (wholeLines c end)
 unfolding bareOf wholeItems wholeLines
 bare-whole c end =
-    bare-append (items c nowhere 0 1) (bind 0 ∷ map ins end) ∙ ap₂ (λ (r s : List Line). r ++ s) (bare-items c nowhere 0 1 nowhere 0) (bare-ins end)
+    bare-append (items c nowhere 0 1) (bind 0 ∷ map ins end)
+    ∙ ap₂ (λ (r s : List Line). r ++ s) (bare-items c nowhere 0 1 nowhere 0) (bare-ins end)
     ∙ sym (map-append bare (lines c nowhere 0) (map plain end))
 
 -- the words, and the positions of the fix-ups
@@ -294,7 +310,8 @@ module _ (table : List ℕ) (c : Code top) (end : List Instr) where
       ap fixesAt (run-fixes (wholeItems c end) (begin table)) ∙ fixes-bare 0 [] (wholeItems c end)
       ∙ ap (linesAt namesPlace 0) (bare-whole c end) ∙ lines-bare 0 (wholeLines c end)
 
-  pub walked-lent : finish s ≡ linesWords (wholeLines c end) → (n : ℕ) (lent : List ℕ) → patchAll (leads s) (take n (s .fixes)) (lay (pooledWords s) lent) ≡ lay (walkedWords n (wholeLines c end)) lent
+  pub walked-lent : finish s ≡ linesWords (wholeLines c end) → (n : ℕ) (lent : List ℕ)
+      → patchAll (leads s) (take n (s .fixes)) (lay (pooledWords s) lent) ≡ lay (walkedWords n (wholeLines c end)) lent
   unfolding walkedWords
   walked-lent f n lent = walk-lent table (wholeItems c end) n lent ∙ rw (f, pooled-is, fixes-are)
 

@@ -55,8 +55,9 @@ completedAt (p ∷ ps) final ws = completedAt ps final (set ws p (getD final p 0
 unfoldable pub walkedWords : ℕ → List Line → List ℕ
 walkedWords n ls = completedAt (take n (patchesOf ls)) (linesWords ls) (unpatchedWords ls)
 
-abbrev pub nthPatch : List Line → ℕ → ℕ
-nthPatch ls n = getD (patchesOf ls) n 0
+-- how many words stand up to patch number m, its own among them
+abbrev pub upTo : List Line → ℕ → ℕ
+upTo ls m = suc (getD (patchesOf ls) m 0)
 
 -- "patch in one walk by rising word position: after each patch the words up to it are final, those behind it as before the walk. Every
 -- word .. remains". Of words `ws` behind the first n patches, in a room that held `lent` and is large enough. No word is patched twice,
@@ -64,6 +65,6 @@ nthPatch ls n = getD (patchesOf ls) n 0
 pub record OneWalk (ls : List Line) (n : ℕ) (lent ws : List ℕ) : Type 0 where
   pub rising : Rise 0 (length ls) (patchesOf ls)
   pub first : n ≡ 0 → ws ≡ lay (unpatchedWords ls) lent
-  pub final : (m : ℕ) → n ≡ suc m → m < length (patchesOf ls) → take (suc (nthPatch ls m)) ws ≡ take (suc (nthPatch ls m)) (linesWords ls)
-  pub before : (m : ℕ) → n ≡ suc m → m < length (patchesOf ls) → drop (suc (nthPatch ls m)) ws ≡ drop (suc (nthPatch ls m)) (lay (unpatchedWords ls) lent)
+  pub final : (m : ℕ) → n ≡ suc m → m < length (patchesOf ls) → take (upTo ls m) ws ≡ take (upTo ls m) (linesWords ls)
+  pub before : (m : ℕ) → n ≡ suc m → m < length (patchesOf ls) → drop (upTo ls m) ws ≡ drop (upTo ls m) (lay (unpatchedWords ls) lent)
   pub all : length (patchesOf ls) ≤ n → ws ≡ lay (linesWords ls) lent

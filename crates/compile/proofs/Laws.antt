@@ -93,10 +93,13 @@ module _ (blk : Block) (ck : Checked blk) (lent tab ws t : List ℕ) (full : len
   targets-are = h .targets ∙ kept-few (targets (blockSteps blk)) (sited blk .two)
 
 -- ---- the walk, where it stops and where it ends
-pub one-walk-is : (blk : Block) (n : ℕ) (lent ws : List ℕ) → ws ≡ laid (walkedWords n (blockLines blk)) lent → length (blockWords blk) ≤ length lent → OneWalk (blockLines blk) n lent ws
+pub one-walk-is : (blk : Block) (n : ℕ) (lent ws : List ℕ) → ws ≡ laid (walkedWords n (blockLines blk)) lent
+    → length (blockWords blk) ≤ length lent → OneWalk (blockLines blk) n lent ws
 unfolding blockWords
 one-walk-is blk n lent ws e l =
-    subst (OneWalk (blockLines blk) n lent) (sym (e ∙ laid-fits (walkedWords n (blockLines blk)) lent (rw (walked-length (blockLines blk) n) l))) (one-walk (blockLines blk) lent l n)
+    let m : length (walkedWords n (blockLines blk)) ≤ length lent = rw (walked-length (blockLines blk) n) l in
+    subst (OneWalk (blockLines blk) n lent) (sym (e ∙ laid-fits (walkedWords n (blockLines blk)) lent m)) (one-walk (blockLines blk) lent l n)
 
-pub whole-laid : (blk : Block) (ck : Checked blk) (lent : List ℕ) → laid (walkedWords fixupRoom (blockLines blk)) lent ≡ laid (blockWords blk) lent
+pub whole-laid : (blk : Block) (ck : Checked blk) (lent : List ℕ)
+    → laid (walkedWords fixupRoom (blockLines blk)) lent ≡ laid (blockWords blk) lent
 whole-laid blk ck lent = ap (λ ws. laid ws lent) (whole-walk blk ck)

@@ -12,7 +12,7 @@ use lib.ListN.{length, getD, set, replicate, drop, drop-of-length-le, length-set
 use borrow.Author.Tests.{lt-ltb, le-ltb, ltb-true, ltb-false, ne-eqb}
 use Rattle.code.specs.Items.{dist, bytes, halves, padOf, baseOf}
 use Rattle.asm.specs.State.{labelRoom, fixupRoom, literalsAt, fixupsAt, State, atMost, kept, held, literalsFrom}
-use Rattle.finish.specs.Finish.{fieldOf, patchIn, fixOf, leadIn, patchedWith, patchedAt, patchedTo, write, zeros, written, needed, beforeWalk, finished, finishedWords}
+use Rattle.finish.specs.Finish.{fieldOf, patchIn, fixOf, leadIn, patchedWith, patchedAt, patchedTo, write, zeros, written, needed, beforeWalk, walkedTo, finished, finishedWords}
 use Rattle.finish.specs.declared.Finished.the-variants.{Words, Short}
 
 -- ---- the field of each kind
@@ -173,14 +173,19 @@ module _ (s : State) (k n base : ℕ) (ws₁ ws₂ : List ℕ) (h : Pooled s k n
   length-is : length ws₂ ≡ length (s .words)
   length-is = ap length words-are ∙ write-length (written s) (padOf (written s) (held s) ++ halves (held s)) (s .words)
 
-  pub finish-short : (upto : ℕ) (ws₃ : List ℕ) → length ws₂ < base + 2 * k → ws₃ ≡ zeros ws₂ → (Short (base + 2 * k) ≡ finished s) × (ws₃ ≡ finishedWords upto s)
+  pub finish-short : (upto : ℕ) (ws₃ : List ℕ) → length ws₂ < base + 2 * k → ws₃ ≡ zeros ws₂
+      → (Short (base + 2 * k) ≡ finished s) × (ws₃ ≡ finishedWords upto s)
   unfolding finished finishedWords zeros
   finish-short upto ws₃ l z =
       let t : ltb (length (s .words)) (needed s) ≡ true = lt-ltb (length (s .words)) (needed s) (omega (arith, needed-is, length-is)) in
       (rw (t, ← needed-is), rw t (z ∙ ap (λ n. replicate n 0) length-is))
 
-  pub finish-long : (upto f : ℕ) (ws₃ : List ℕ) → base + 2 * k ≤ length ws₂ → f ≡ atMost (s .asm .fixups) upto → ws₃ ≡ patchedTo (s .tab) base (atMost fixupRoom f) ws₂ → (Words (base + 2 * k) ≡ finished s) × (ws₃ ≡ finishedWords upto s)
+  pub finish-long : (upto f : ℕ) (ws₃ : List ℕ) → base + 2 * k ≤ length ws₂ → f ≡ atMost (s .asm .fixups) upto
+      → ws₃ ≡ patchedTo (s .tab) base (atMost fixupRoom f) ws₂ → (Words (base + 2 * k) ≡ finished s) × (ws₃ ≡ finishedWords upto s)
   unfolding finished finishedWords
   finish-long upto f ws₃ l e z =
       let t : ltb (length (s .words)) (needed s) ≡ false = le-ltb (length (s .words)) (needed s) (omega (arith, needed-is, length-is)) in
-      (rw (t, ← needed-is), rw t (z ∙ ap₂ (λ (x y : ℕ). patchedTo (s .tab) x (atMost fixupRoom y) ws₂) base-held e ∙ ap (λ x. patchedTo (s .tab) (baseOf (written s) (held s)) (atMost fixupRoom (atMost (s .asm .fixups) upto)) x) words-are))
+      let w : ws₃ ≡ walkedTo (atMost fixupRoom (atMost (s .asm .fixups) upto)) s =
+      z ∙ ap₂ (λ (x y : ℕ). patchedTo (s .tab) x (atMost fixupRoom y) ws₂) base-held e
+      ∙ ap (patchedTo (s .tab) (baseOf (written s) (held s)) (atMost fixupRoom (atMost (s .asm .fixups) upto))) words-are in
+      (rw (t, ← needed-is), rw t w)

@@ -12,7 +12,8 @@ use Rattle.arm.specs.declared.Instr.{Instr}
 use Rattle.code.specs.Items.{pick, adr, label, literal, Item, ins, go, new, bind, size, binds, add, poolOf, halves, padOf, baseOf, placesOf, Below}
 use Rattle.code.specs.Emit.{kind, St, lead, pooledWords, lay}
 use Rattle.code.specs.Emit.{run as runE, start as startE, finish as finishE}
-use Rattle.code.specs.Tree.{Depth, top, Var, Code, code, lit, to, exit, block, start, _then_, inside, words, labels, jumps, after, items, nowhere, Line, wholeItems, wholeLines, poolIn, linesWords}
+use Rattle.code.specs.Tree.{Depth, top, Var, Code, code, lit, to, exit, block, start, _then_, inside, words, labels, jumps, after, items}
+use Rattle.code.specs.Tree.{nowhere, Line, wholeItems, wholeLines, poolIn, linesWords}
 use Rattle.code.specs.Walk.{patchesOf, completedAt, walkedWords}
 use Rattle.code.proofs.Emit.{raw-size, tableOf, fixesOf, run-words, run-labels, run-pool, run-fixes, placed-is, table-placed}
 use Rattle.code.proofs.Tree.{whole-once, whole-met, whole-below, whole-size, whole-pool, whole-length}
@@ -20,7 +21,7 @@ use Rattle.code.proofs.Order.{lay-put, lay-length}
 use Rattle.code.proofs.Walk.{walked-all, walked-length, pooled-is, fixes-are, walked-lent}
 use Rattle.code.proofs.Reach.{whole-reach, emitted}
 use Rattle.asm.specs.State.{labelRoom, fixupRoom, tableRoom, State, state, begin, atMost, held, run}
-use Rattle.finish.specs.Finish.{patchedTo, write, zeros, written, needed, beforeWalk, finished, finishedWords}
+use Rattle.finish.specs.Finish.{patchedTo, write, zeros, written, needed, beforeWalk, walkedTo, finished, finishedWords}
 use Rattle.finish.specs.Whole.{laid, told, countOf, Held}
 use Rattle.finish.specs.declared.Finished.the-variants.{Words, Short}
 use Rattle.finish.proofs.Cases.{halves-length}
@@ -140,7 +141,8 @@ module _ (c : Code top) (end : List Instr) where
 
   pub patches-jumps : length (patchesOf (wholeLines c end)) ≡ jumps c
   unfolding startE
-  patches-jumps = patches-fixes [] ∙ ap length (run-fixes (wholeItems c end) (startE [])) ∙ fixes-length 0 [] (wholeItems c end) ∙ whole-goes c end
+  patches-jumps =
+      patches-fixes [] ∙ ap length (run-fixes (wholeItems c end) (startE [])) ∙ fixes-length 0 [] (wholeItems c end) ∙ whole-goes c end
 
 -- ---- the lists
 write-lay : (xs ys lent : List ℕ) → write (length xs) ys (lay xs lent) ≡ lay (xs ++ ys) lent
@@ -277,31 +279,35 @@ module _ (tab : List ℕ) (full : length tab ≡ tableRoom) (c : Code top) (end 
         ∙ write-lay (p .words) (padOf (length (p .words)) (p .pool) ++ halves (p .pool)) lent
 
     -- THE FIRST n PATCHES in the lent words, of as many as there are
-    pub walked : (n : ℕ) → n ≤ length (p .fixes) → patchedTo (s .tab) (baseOf (written s) (held s)) n (beforeWalk s) ≡ lay (walkedWords n ls) lent
+    pub walked : (n : ℕ) → n ≤ length (p .fixes) → walkedTo n s ≡ lay (walkedWords n ls) lent
     walked n m =
         ap₂ (λ (x : ℕ) (ws : List ℕ). patchedTo (s .tab) x n ws) base-is laid-out
         ∙ walk (s .tab) (p .labels) base (tracks .labels) (p .fixes) n (lay (pooledWords p) lent) m goods-are (tracks .fixes)
         ∙ walked-lent table c end finish-is n lent
 
-    words-are : (n : ℕ) → patchedTo (s .tab) (baseOf (written s) (held s)) (atMost fixupRoom (atMost (s .asm .fixups) n)) (beforeWalk s) ≡ lay (walkedWords n ls) lent
+    words-are : (n : ℕ) → walkedTo (atMost fixupRoom (atMost (s .asm .fixups) n)) s ≡ lay (walkedWords n ls) lent
     words-are n = by (ltb (s .asm .fixups) n) refl
       where
-        by : (t : Bool) → ltb (s .asm .fixups) n ≡ t → patchedTo (s .tab) (baseOf (written s) (held s)) (atMost fixupRoom (pick t (s .asm .fixups) n)) (beforeWalk s) ≡ lay (walkedWords n ls) lent
+        by : (t : Bool) → ltb (s .asm .fixups) n ≡ t → walkedTo (atMost fixupRoom (pick t (s .asm .fixups) n)) s ≡ lay (walkedWords n ls) lent
         by true e =
             let l : length (patchesOf ls) ≤ n = omega (arith, ltb-true (s .asm .fixups) n e, tracks .fixups, patches-fixes c end table) in
-            ap (λ m. patchedTo (s .tab) (baseOf (written s) (held s)) m (beforeWalk s)) fixups-are
+            ap (λ m. walkedTo m s) fixups-are
             ∙ walked (length (p .fixes)) (omega arith)
-            ∙ ap (λ ws. lay ws lent) (walked-all ls (length (p .fixes)) (omega (arith, patches-fixes c end table)) ∙ sym (walked-all ls n l))
+            ∙ ap (λ ws. lay ws lent)
+            (walked-all ls (length (p .fixes)) (omega (arith, patches-fixes c end table)) ∙ sym (walked-all ls n l))
         by false e =
             let l : n ≤ length (p .fixes) = omega (arith, ltb-false (s .asm .fixups) n e, tracks .fixups) in
-            ap (λ m. patchedTo (s .tab) (baseOf (written s) (held s)) m (beforeWalk s)) (rw (le-ltb fixupRoom n (omega (arith, fixes-few)))) ∙ walked n l
+            ap (λ m. walkedTo m s) (rw (le-ltb fixupRoom n (omega (arith, fixes-few)))) ∙ walked n l
 
     -- THE LENT WORDS ARE THE BLOCK'S BEHIND SO MANY PATCHES, or zeros, and the answer tells how many
     pub finished-block : ((n : ℕ) → finishedWords n s ≡ laid (walkedWords n ls) lent) × (finished s ≡ told (linesWords ls) lent)
     unfolding finished finishedWords laid told zeros
     finished-block = (
-      λ n. pick-same (length (s .words)) (length lent) (needed s) (length (walkedWords n ls)) _ _ _ _ room-is (needed-is ∙ sym (walked-length ls n)) (ap (λ n. replicate n 0) room-is) (words-are n),
-      pick-same (length (s .words)) (length lent) (needed s) (length (linesWords ls)) _ _ _ _ room-is needed-is (ap Short needed-is) (ap Words needed-is),
+      λ n.
+          pick-same (length (s .words)) (length lent) (needed s) (length (walkedWords n ls)) _ _ _ _ room-is (needed-is ∙ sym (walked-length ls n))
+          (ap (λ n. replicate n 0) room-is) (words-are n),
+      pick-same (length (s .words)) (length lent) (needed s) (length (linesWords ls)) _ _ _ _ room-is needed-is
+          (ap Short needed-is) (ap Words needed-is),
     )
 
 -- words that fit are laid

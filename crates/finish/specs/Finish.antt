@@ -68,8 +68,12 @@ finished s = pick (ltb (length (s .words)) (needed s)) (Short (needed s)) (Words
 abbrev pub beforeWalk : State → List ℕ
 beforeWalk s = write (written s) (padOf (written s) (held s) ++ halves (held s)) (s .words)
 
+-- behind the first n fix-ups of the table
+abbrev pub walkedTo : ℕ → State → List ℕ
+walkedTo n s = patchedTo (s .tab) (baseOf (written s) (held s)) n (beforeWalk s)
+
 -- behind the first n patches, or behind all where there are fewer
 unfoldable pub finishedWords : ℕ → State → List ℕ
 finishedWords n s =
     pick (ltb (length (s .words)) (needed s)) (zeros (s .words))
-    (patchedTo (s .tab) (baseOf (written s) (held s)) (atMost fixupRoom (atMost (s .asm .fixups) n)) (beforeWalk s))
+    (walkedTo (atMost fixupRoom (atMost (s .asm .fixups) n)) s)
