@@ -1,8 +1,9 @@
 """Speed and stack of `translate` and `words_needed` beside the commit's `compile`, in one run on one machine: the tables of docs/SPEED.md.
 
-    python3 host/speed.py ORACLE_DIR ORACLE
+    python3 host/speed.py tests/oracle ORACLE
 
-ORACLE_DIR has the oracle's blocks.py, and ORACLE is its program. Needs rt, gcc, objdump and valgrind. Prints Markdown.
+tests/oracle draws the records, and ORACLE is the program that its build.py makes (docs/vectors.md). Needs rt, gcc, objdump and valgrind. Prints
+Markdown.
 
 Instructions are callgrind's, of `werfund_translate` and `werfund_words_needed` in the static library and of `main::jit::compile` in the oracle
 with all that they call, on the same records. Times are of a call in a loop, the least of 15 runs that all measurements make by turns. The parts

@@ -1,10 +1,12 @@
 """Cases for the program blockcases: records with the oracle's answers, every word of them.
 
-    python3 tools/block_cases.py ORACLE OUT [--public RECORDS_TXT] [--drawn FILE].. [--edge FILE]..
+    python3 tools/block_cases.py ORACLE OUT [--public RECORDS_TXT] [--drawn FILE].. [--edge FILE].. [--cut FILE].. [OPTION..]
 
-RECORDS_TXT is the oracle's vectors/public/records.txt, which has the answers and the numbers of lent words. A FILE has a record a line in
-hexadecimal, as blocks.py prints it; ORACLE answers each with 16,384 words lent. With --edge it answers each accepted record twice more: with
-as many words lent as it needs, and with one less. How many words a block takes is ORACLE's, by --sizes.
+RECORDS_TXT is the oracle's vectors/public/records.txt, which has the numbers of lent words. A FILE has a record a line in hexadecimal, as
+blocks.py prints it, and 16,384 words are lent. With --edge each accepted record comes twice: with as many words lent as it needs, and with
+one less. With --cut it comes cut at each of its first 400 bytes, and with each of these set to 0, 1, 5, 16, 255 and to its
+neighbour. The answers are ORACLE's, and how many words a block takes is ORACLE's too, by --sizes. Any other OPTION (--kinds 44) is
+handed to ORACLE.
 
 OUT is a run of cases. A case is numbers of 32 bits, little-endian, and the record's bytes:
 
@@ -26,57 +28,66 @@ LENT = 16384
 
 
 def public(path):
-    """Lent words, record and listing of each case of records.txt."""
-    found = []
+    """Lent words and record of each case of records.txt."""
     for line in open(path):
         if line.startswith("> "):
             _, _, lent, record = line.split()
-            found.append((int(lent), bytes.fromhex(record.strip("-")), []))
-        else:
-            found[-1][2].append(line.split())
-    return found
+            yield int(lent), bytes.fromhex(record.strip("-"))
 
 
-def asked(oracle, options, records):
+def drawn(path):
+    """The records of a file, with the words that are lent."""
+    return ((LENT, bytes.fromhex(line)) for line in open(path).read().splitlines())
+
+
+def asked(command, records):
     """What the oracle prints of records."""
     lines = "".join(r.hex() + "\n" for r in records)
-    return subprocess.run([oracle] + options, input=lines, capture_output=True, text=True, check=True).stdout
+    return subprocess.run(command, input=lines, capture_output=True, text=True, check=True).stdout
 
 
-def answered(oracle, lent, records):
-    """Lent words, record and listing of records that the oracle answers."""
-    listings = asked(oracle, ["--hex", "--lent", str(lent)], records).split(".\n")[:-1]
-    assert len(listings) == len(records)
-    return [(lent, r, [l.split() for l in text.splitlines()]) for r, text in zip(records, listings)]
+def answered(oracle, pairs):
+    """Lent words, record, and the oracle's listing, of pairs of the first two. `oracle` is a command with its options."""
+    pairs, found = list(pairs), {}
+    for lent in sorted({lent for lent, _ in pairs}):
+        records = list({r: 0 for n, r in pairs if n == lent})
+        listings = asked(oracle + ["--hex", "--lent", str(lent)], records).split(".\n")[:-1]
+        assert len(listings) == len(records)
+        found.update(((lent, r), [l.split() for l in text.splitlines()]) for r, text in zip(records, listings))
+    return [(lent, r, found[lent, r]) for lent, r in pairs]
 
 
 def needs(oracle, records):
-    """Of each record, whatever is lent: the fault's number and place, and the words that the block takes."""
-    answers = [line.split() for line in asked(oracle, ["--sizes"], records).splitlines()]
+    """Of each record, whatever is lent: the fault's number and place, and the words that the block takes; and the literals of its pool."""
+    answers = [line.split() for line in asked(oracle + ["--sizes"], records).splitlines()]
     assert len(answers) == len(records)
-    return [(int(a[1]), int(a[2]), 0) if a[0] == "refused" else (0, 0, int(a[0])) for a in answers]
+    return [((int(a[1]), int(a[2]), 0), 0) if a[0] == "refused" else ((0, 0, int(a[0])), int(a[3])) for a in answers]
 
 
-def pieces(path, size=1000):
-    """The records of a file, some at a time."""
-    lines = open(path).read().splitlines()
-    for i in range(0, len(lines), size):
-        yield [bytes.fromhex(l) for l in lines[i : i + size]]
-
-
-def edge(oracle, records):
+def edge(oracle, path):
     """Accepted records with as many words lent as they need, and with one less."""
-    for _, record, listing in answered(oracle, LENT, records):
+    for _, record, listing in answered(oracle, drawn(path)):
         if listing[0][0] == "words":
-            for lent in (int(listing[0][1]), int(listing[0][1]) - 1):
-                yield from answered(oracle, lent, [record])
+            yield from ((int(listing[0][1]) - k, record) for k in (0, 1))
+
+
+def cut(path):
+    """Records cut at each of their first 400 bytes, and with each of these set to other numbers."""
+    for lent, record in drawn(path):
+        for i, byte in enumerate(record[:400]):
+            yield lent, record[:i]
+            yield from ((lent, record[:i] + bytes([v]) + record[i + 1 :]) for v in (0, 1, 5, 16, 255, byte ^ 1))
+
+
+def cases(oracle, pairs):
+    """Cases of pairs of lent words and a record: lent, record, listing, need, literals. None of a record that is too long."""
+    found = [c for c in answered(oracle, pairs) if c[2][0] != ["long"]]
+    return [(*c, *n) for c, n in zip(found, needs(oracle, [c[1] for c in found]))]
 
 
 def case(lent, record, listing, need):
     """A case's bytes."""
     head = listing[0]
-    if head == ["long"]:
-        return b""
     fault, words, body, sites = (0, 0), [], 0, []
     if head[0] == "refused":
         fault = int(head[1]), int(head[2])
@@ -95,6 +106,12 @@ def case(lent, record, listing, need):
     return struct.pack("<I", len(rest)) + rest
 
 
+def counts(found):
+    """How many cases there are, how many are refused, and the words of the others."""
+    refused = sum(c[2][0][0] == "refused" for c in found)
+    return len(found), refused, sum(int(c[2][0][1]) for c in found if c[2][0][0] == "words")
+
+
 def main():
     arguments = argparse.ArgumentParser()
     arguments.add_argument("oracle")
@@ -102,29 +119,23 @@ def main():
     arguments.add_argument("--public")
     arguments.add_argument("--drawn", action="append", default=[])
     arguments.add_argument("--edge", action="append", default=[])
-    a = arguments.parse_args()
-    count, refused, words = 0, 0, 0
+    arguments.add_argument("--cut", action="append", default=[])
+    a, options = arguments.parse_known_args()
+    oracle = [a.oracle] + options
+    pairs = list(public(a.public)) if a.public else []
+    for path in a.drawn:
+        pairs += drawn(path)
+    for path in a.edge:
+        pairs += edge(oracle, path)
+    for path in a.cut:
+        pairs += cut(path)
+    total = [0, 0, 0]
     with open(a.out, "wb") as f:
-
-        def write(cases):
-            nonlocal count, refused, words
-            cases = list(cases)
-            for c, need in zip(cases, needs(a.oracle, [record for _, record, _ in cases])):
-                b = case(*c, need)
-                f.write(b)
-                if b:
-                    count += 1
-                    refused += c[2][0][0] == "refused"
-                    words += int(c[2][0][1]) if c[2][0][0] == "words" else 0
-
-        write(public(a.public) if a.public else [])
-        for path in a.drawn:
-            for records in pieces(path):
-                write(answered(a.oracle, LENT, records))
-        for path in a.edge:
-            for records in pieces(path):
-                write(edge(a.oracle, records))
-    print(f"cases {count}\nrefused {refused}\nwords {words}\ndifferent 0")
+        for i in range(0, len(pairs), 1000):
+            found = cases(oracle, pairs[i : i + 1000])
+            f.write(b"".join(case(*c[:4]) for c in found))
+            total = [x + y for x, y in zip(total, counts(found))]
+    print("cases {}\nrefused {}\nwords {}\ndifferent 0".format(*total))
 
 
 if __name__ == "__main__":

@@ -4,11 +4,12 @@
 
 RUNS is a file of runs in the format of its own README, with `readruns.py` beside it. LISTING is a program that prints a record's
 listing as document 01's blockwords does; it tells the order of a block's chain sites. OUT is the `proofs` folder of card_runs, or of a
-copy; it gets a file for each N runs, with one equation, and `Lib.antt`. FILE names the runs that are wanted, by groups: a line
-`Name: what it holds` starts a file, the lines behind it name its runs. The crate's own files are those of tools/card_runs.txt.
+copy; it gets a file for each N runs, with a row a run and one equation, and `Lib.antt`. FILE names the runs that are wanted, by groups: a
+line `Name: what it holds` starts a file, the lines behind it name its runs. The crate's own files are those of tools/card_runs.txt.
 """
 import argparse
 import os
+import re
 import subprocess
 import sys
 
@@ -61,18 +62,25 @@ def listed(items):
     return "".join(f"{i} ∷ " for i in items) + "[]"
 
 
-def lines(items):
-    """A list as an argument, with an item a line where there are more."""
-    items = list(items)
-    return "(" + "\n        ∷ ".join(items + ["[])"]) if len(items) > 1 else arg(listed(items))
+def arg(text):
+    return f"({text})" if " " in text else text
 
 
 def bytes_(b):
-    return f"hex {len(b)} 0x{b.hex()}" if b else "[]"
+    pieces = [b[k:k + 60] for k in range(0, len(b), 60)]
+    return " ++ ".join(f"hex {len(p)} 0x{p.hex()}" for p in pieces) or "[]"
 
 
-def arg(text):
-    return text if text == "[]" else f"({text})"
+def filled(parts):
+    """The parts in lines of at most 140 characters; one that is too long is broken too."""
+    parts = [q for p in parts for q in ([p] if len(p) < 135 else p.split(" "))]
+    lines = [parts[0]]
+    for p in parts[1:]:
+        if len(lines[-1]) + len(p) < 134:
+            lines[-1] += " " + p
+        else:
+            lines.append(p)
+    return "\n    ".join(lines)
 
 
 def request(q):
@@ -95,57 +103,75 @@ def leaving(run, listing):
     return {"return": "byReturn", "table": "byTable"}[run.left]
 
 
-def case(n, run, listing, names):
+def changes(s, e):
+    """In what the end differs from the start."""
+    out = [f"reg {k} {number(v)}" for k, (u, v) in enumerate(zip(s.regs, e.regs)) if u != v]
+    out += [f"{n} {number(getattr(e, n))}" for n in CELLS if getattr(s, n) != getattr(e, n)]
+    out += [f"{n} {arg(bytes_(getattr(e, n) or b''))}" for n in ("ram", "map") if (getattr(s, n) or b"") != (getattr(e, n) or b"")]
+    return [f"({out[0]}"] + [f"& {c}" for c in out[1:-1]] + [f"& {out[-1]})"] if len(out) > 1 else [arg(out[0])]
+
+
+def spread(items):
+    """A list as an argument, an item a part."""
+    items = list(items)
+    return [f"({items[0]}"] + [f"∷ {i}" for i in items[1:]] + ["∷ [])"] if items else ["[]"]
+
+
+def case(run, listing, names):
     b, s, e = run.block, run.start, run.end
     outcomes = (f"outcome {number(o.answer)} {number(o.brk)} {arg(bytes_(o.ram))} {arg(bytes_(o.map or b''))}" for o in run.outcomes)
-    cells = (e.sp, e.rets, e.hold, e.brk, e.pc, e.done)
     memory = " ".join(map(number, b.mem))
-    start = " ".join(map(number, (s.sp, s.rets, s.hold, s.brk, s.pc, s.done)))
-    return f"""-- {run.name}
-abbrev run{n} : Case
-run{n} =
-    record {{
-      code =
-        block (memory {memory} {flag(b.map)}) {number(b.pc0)}
-        {lines(operation(o, names) for o in b.ops)};
-      flash = {bytes_(s.xip)};
-      limit = {number(s.limit)};
-      start =
-        card {arg(listed(map(number, s.regs)))}
-        {start} {arg(bytes_(s.ram))} {arg(bytes_(s.map or b""))}
-        {lines(outcomes)};
-      table = {listed(f"entry {number(i)} {number(g)}" for i, (g, _) in sorted(run.table.items()))};
-      end =
-        shows {arg(leaving(run, listing))} {arg(listed(map(number, e.regs)))}
-        {arg(listed(map(number, cells)))} {arg(bytes_(e.ram))} {arg(bytes_(e.map or b""))}
-        {lines(map(request, run.requests))};
-    }}
-"""
+    ops = spread(operation(o, names) for o in b.ops)
+    code = [f"runs (block (memory {memory} {flag(b.map)}) {number(b.pc0)}"] + ops[:-1] + [ops[-1] + ")"]
+    low, high = ("0x" + "".join("%08x" % r for r in half) for half in (s.regs[:8], s.regs[8:]))
+    cells = [number(getattr(s, n)) for n in CELLS]
+    given = spread(outcomes)
+    card = [f"(card (regs {low}", f"{high})"] + cells + [arg(bytes_(s.ram)), arg(bytes_(s.map or b""))] + given[:-1] + [given[-1] + ")"]
+    table = arg(listed(f"entry {number(i)} {number(g)}" for i, (g, _) in sorted(run.table.items())))
+    end = [table, arg(leaving(run, listing))] + changes(s, e) + spread(map(request, run.requests))
+    return "\n    ".join(filled(parts) for parts in (code + [arg(bytes_(s.xip)), number(s.limit)], card, end))
 
 
 HEAD = """-- %s: each run reaches its end.
 use mathlib.Core.Bool.{true, false}
-use mathlib.Core.List.{List, [], _∷_}
+use mathlib.Core.List.{List, [], _∷_%s}
 use mathlib.Core.Path.{_≡_, refl}
-use Rattle.block.specs.declared.Op.the-variants.{Add, Sub, RSub, And, AndNot, Or, Xor, Mul, Shl, Shr, Sar}
-use Rattle.block.specs.declared.RmwOp.the-variants.{Or as RmwOr, And as RmwAnd, Xor as RmwXor, Add as RmwAdd, Sub as RmwSub, Mov as RmwMov}
-use Rattle.block.specs.declared.Cond.the-variants.{Eq, Ne, LtU, GtU, LeU, GeU, LtS, GtS, LeS, GeS}
-use Rattle.block.specs.declared.Base.the-variants.{Reg, Sp}
-use Rattle.block.specs.declared.Width.the-variants.{Byte as B8, Half as B16, Word as B32}
-use Rattle.block.specs.declared.Rk.the-variants.{Reg as RkReg, Imm as RkImm, Bit as RkBit}
-use Rattle.block.specs.declared.Part.the-variants.{Byte as PartByte, Half as PartHalf, Upper as PartUpper}
-use Rattle.block.specs.declared.Choice.the-variants.{MinS, MaxS, MinU, MaxU}
-use Rattle.block.specs.declared.UnKind.the-variants.{Not, Neg, Abs, Rev, Clz, SatS, SatU}
-use Rattle.block.specs.declared.DivKind.the-variants.{QuoS, QuoU, RemS, RemU}
-use Rattle.block.specs.declared.Fast.the-variants.{%s}
+%s
 use Rattle.card.specs.Word.{signedOf, signExtend, leadingZeros}
-use Rattle.card.specs.Card.{read, write}
 use Rattle.card.specs.Memory.{readLE, writeLE, load, direct, store}
 use Rattle.card.specs.Step.{opStep}
 use Rattle.card.specs.Run.{opsFrom, run}
-use Rattle.card_runs.specs.Case.{hex, memory, op, block, card, outcome, entry, byReturn, byTable, byChain, shows, Case, reached, expected}
+use Rattle.card_runs.specs.Case.{Case, runs, reached, expected, block, memory, op, hex, regs, card}
+use Rattle.card_runs.specs.Case.{%s}
 
+abbrev cases : List Case
+cases =
+    %s
+    ∷ []
+
+pub all-reach : reached cases ≡ expected cases
+unfolding run opsFrom opStep load direct store readLE writeLE signedOf signExtend leadingZeros
+all-reach = refl
 """
+CELLS = "sp rets hold brk pc done".split()
+CASE = "outcome entry byReturn byTable byChain reg".split() + CELLS + ["ram", "map", "_&_"]
+
+
+def uses(text, names):
+    """The imports of a file's text, those that it needs."""
+    found = set(re.findall(r"\b[A-Za-z0-9]+|&|\+\+", text))
+    kinds = [("Op", OPS, ""), ("RmwOp", RMW, "Rmw"), ("Cond", CONDS, ""), ("Base", ["Reg", "Sp"], ""), ("Width", list(WIDTHS.values()), ""),
+             ("Rk", RK, "Rk"), ("Part", PARTS, "Part"), ("Choice", CHOICES, ""), ("UnKind", UN, ""), ("DivKind", DIV, ""),
+             ("Fast", names, "")]
+    variants = {"B8": "Byte as B8", "B16": "Half as B16", "B32": "Word as B32"}
+    lines = []
+    for kind, all_names, prefix in kinds:
+        own = [variants.get(n, f"{n[len(prefix):]} as {n}" if prefix else n) for n in all_names if n in found]
+        for k in range(0, len(own), 8):
+            lines.append(f"use Rattle.block.specs.declared.{kind}.the-variants.{{{', '.join(own[k:k + 8])}}}")
+    asked = [n for n in ("read", "write") if n in found]
+    lines += [f"use Rattle.card.specs.Card.{{{', '.join(asked)}}}"] if asked else []
+    return "\n".join(lines), ", ".join(n for n in CASE if n.strip("_") in found)
 
 
 def groups(path, runs):
@@ -180,16 +206,9 @@ def main():
     os.makedirs(a.out, exist_ok=True)
     for name, text, part in parts:
         with open(os.path.join(a.out, name + ".antt"), "w") as f:
-            f.write(HEAD % (text, ", ".join(readruns.NAMES)))
-            for n, r in enumerate(part):
-                f.write(case(n, r, a.listing, readruns.NAMES) + "\n")
-            f.write(f"""abbrev runs : List Case
-runs = {listed(f"run{n}" for n in range(len(part)))}
-
-pub all-reach : reached runs ≡ expected runs
-unfolding run opsFrom opStep load direct store readLE writeLE signedOf signExtend leadingZeros
-all-reach = refl
-""")
+            cases = [f"{'∷ ' if k else ''}{case(r, a.listing, readruns.NAMES)}" for k, r in enumerate(part)]
+            rows = "\n    ".join(f"-- {r.name}\n    {c}" for r, c in zip(part, cases))
+            f.write(HEAD % ((text, ", _++_" if "++" in rows else "") + uses(re.sub("--.*", "", rows), readruns.NAMES) + (rows,)))
     with open(os.path.join(a.out, "Lib.antt"), "w") as f:
         f.write("".join(f"pub mod {name}\n" for name, _, _ in parts))
     print(sum(len(part) for _, _, part in parts), "runs in", len(parts), "files")

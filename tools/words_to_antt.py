@@ -126,6 +126,7 @@ def main():
     a = p.parse_args()
     taken = [c for c in cases(a.records) if len(c[2]) <= a.most]
     uses = "".join(f"use Rattle.{module}.{{{', '.join(names.split())}}}\n" for module, names in UNFOLDED.items())
+    os.makedirs(a.out, exist_ok=True)
     with open(os.path.join(a.out, "Words.antt"), "w") as f:
         f.write(HEAD + uses + HEX + "".join(equations(n, c) for n, c in enumerate(taken)))
     with open(os.path.join(a.out, "Lib.antt"), "w") as f:

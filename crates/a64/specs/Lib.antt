@@ -1,4 +1,2 @@
 pub mod Conditions
-pub mod Constants
 pub mod Ranges
-pub mod Sequences

@@ -5,7 +5,7 @@ ghost use Rattle.arm.specs.declared.Size.the-variants.{W, X};
 ghost use Rattle.arm.specs.declared.Test.the-variants.{Zero, Nonzero};
 ghost use Rattle.arm.specs.declared.Jump.the-variants.{Br, Blr, Ret};
 ghost use Rattle.arm.specs.declared.Instr.the-variants.{CompareBranch, TestBranch, CondBranch, Branch, BranchReg, Adr};
-ghost use Rattle.words.specs.Answers.{answer, answerIf};
+ghost use Rattle.words.specs.Answers.{answer, answerIf, told};
 ghost use Rattle.a64.specs.Conditions.{code};
 ghost use Rattle.words.specs.Signed.{reaches, twos};
 use super::Cond;
@@ -28,7 +28,7 @@ const HALF_19: u32 = 0x4_0000;
 const HALF_14: u32 = 0x2000;
 
 pub fn b(distance: i64) -> Encoded
-    ensures { λ r. ⌜ r ≡ answerIf (reaches (2 ^ 25) distance) (Branch (twos (2 ^ 25) distance)) ⌝ }
+    ensures { λ r. ⌜ told r ≡ told (answerIf (reaches (2 ^ 25) distance) (Branch (twos (2 ^ 25) distance))) ⌝ }
 {
     encode_if(
         reaches(HALF_26, distance),
@@ -37,7 +37,7 @@ pub fn b(distance: i64) -> Encoded
 }
 
 pub fn b_cond(c: Cond, distance: i64) -> Encoded
-    ensures { λ r. ⌜ r ≡ answerIf (reaches (2 ^ 18) distance) (CondBranch (twos (2 ^ 18) distance) (code c)) ⌝ }
+    ensures { λ r. ⌜ told r ≡ told (answerIf (reaches (2 ^ 18) distance) (CondBranch (twos (2 ^ 18) distance) (code c))) ⌝ }
 {
     encode_if(
         reaches(HALF_19, distance),
@@ -46,7 +46,7 @@ pub fn b_cond(c: Cond, distance: i64) -> Encoded
 }
 
 pub fn cbz(rt: u32, distance: i64) -> Encoded
-    ensures { λ r. ⌜ r ≡ answerIf (reaches (2 ^ 18) distance) (CompareBranch W Zero (twos (2 ^ 18) distance) rt) ⌝ }
+    ensures { λ r. ⌜ told r ≡ told (answerIf (reaches (2 ^ 18) distance) (CompareBranch W Zero (twos (2 ^ 18) distance) rt)) ⌝ }
 {
     encode_if(
         reaches(HALF_19, distance),
@@ -55,7 +55,7 @@ pub fn cbz(rt: u32, distance: i64) -> Encoded
 }
 
 pub fn cbnz(rt: u32, distance: i64) -> Encoded
-    ensures { λ r. ⌜ r ≡ answerIf (reaches (2 ^ 18) distance) (CompareBranch W Nonzero (twos (2 ^ 18) distance) rt) ⌝ }
+    ensures { λ r. ⌜ told r ≡ told (answerIf (reaches (2 ^ 18) distance) (CompareBranch W Nonzero (twos (2 ^ 18) distance) rt)) ⌝ }
 {
     encode_if(
         reaches(HALF_19, distance),
@@ -64,7 +64,7 @@ pub fn cbnz(rt: u32, distance: i64) -> Encoded
 }
 
 pub fn cbz_x(rt: u32, distance: i64) -> Encoded
-    ensures { λ r. ⌜ r ≡ answerIf (reaches (2 ^ 18) distance) (CompareBranch X Zero (twos (2 ^ 18) distance) rt) ⌝ }
+    ensures { λ r. ⌜ told r ≡ told (answerIf (reaches (2 ^ 18) distance) (CompareBranch X Zero (twos (2 ^ 18) distance) rt)) ⌝ }
 {
     encode_if(
         reaches(HALF_19, distance),
@@ -73,7 +73,7 @@ pub fn cbz_x(rt: u32, distance: i64) -> Encoded
 }
 
 pub fn cbnz_x(rt: u32, distance: i64) -> Encoded
-    ensures { λ r. ⌜ r ≡ answerIf (reaches (2 ^ 18) distance) (CompareBranch X Nonzero (twos (2 ^ 18) distance) rt) ⌝ }
+    ensures { λ r. ⌜ told r ≡ told (answerIf (reaches (2 ^ 18) distance) (CompareBranch X Nonzero (twos (2 ^ 18) distance) rt)) ⌝ }
 {
     encode_if(
         reaches(HALF_19, distance),
@@ -82,7 +82,7 @@ pub fn cbnz_x(rt: u32, distance: i64) -> Encoded
 }
 
 pub fn tbz(rt: u32, bit: u32, distance: i64) -> Encoded
-    ensures { λ r. ⌜ r ≡ answerIf (reaches (2 ^ 13) distance) (TestBranch Zero bit (twos (2 ^ 13) distance) rt) ⌝ }
+    ensures { λ r. ⌜ told r ≡ told (answerIf (reaches (2 ^ 13) distance) (TestBranch Zero bit (twos (2 ^ 13) distance) rt)) ⌝ }
 {
     encode_if(
         reaches(HALF_14, distance),
@@ -91,7 +91,7 @@ pub fn tbz(rt: u32, bit: u32, distance: i64) -> Encoded
 }
 
 pub fn tbnz(rt: u32, bit: u32, distance: i64) -> Encoded
-    ensures { λ r. ⌜ r ≡ answerIf (reaches (2 ^ 13) distance) (TestBranch Nonzero bit (twos (2 ^ 13) distance) rt) ⌝ }
+    ensures { λ r. ⌜ told r ≡ told (answerIf (reaches (2 ^ 13) distance) (TestBranch Nonzero bit (twos (2 ^ 13) distance) rt)) ⌝ }
 {
     encode_if(
         reaches(HALF_14, distance),
@@ -100,7 +100,7 @@ pub fn tbnz(rt: u32, bit: u32, distance: i64) -> Encoded
 }
 
 pub fn adr(rd: u32, distance: i64) -> Encoded
-    ensures { λ r. ⌜ r ≡ answerIf (reaches (2 ^ 18) distance) (Adr (twos (2 ^ 18) distance * 4) rd) ⌝ }
+    ensures { λ r. ⌜ told r ≡ told (answerIf (reaches (2 ^ 18) distance) (Adr (twos (2 ^ 18) distance * 4) rd)) ⌝ }
 {
     encode_if(
         reaches(HALF_19, distance),
@@ -109,19 +109,19 @@ pub fn adr(rd: u32, distance: i64) -> Encoded
 }
 
 pub fn blr(rn: u32) -> Encoded
-    ensures { λ r. ⌜ r ≡ answer (BranchReg Blr rn) ⌝ }
+    ensures { λ r. ⌜ told r ≡ told (answer (BranchReg Blr rn)) ⌝ }
 {
     encode(Instr::BranchReg(Jump::Blr, rn))
 }
 
 pub fn br(rn: u32) -> Encoded
-    ensures { λ r. ⌜ r ≡ answer (BranchReg Br rn) ⌝ }
+    ensures { λ r. ⌜ told r ≡ told (answer (BranchReg Br rn)) ⌝ }
 {
     encode(Instr::BranchReg(Jump::Br, rn))
 }
 
 pub fn ret() -> Encoded
-    ensures { λ r. ⌜ r ≡ answer (BranchReg Ret 30) ⌝ }
+    ensures { λ r. ⌜ told r ≡ told (answer (BranchReg Ret 30)) ⌝ }
 {
     encode(Instr::BranchReg(Jump::Ret, 30))
 }

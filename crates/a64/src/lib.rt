@@ -5,12 +5,10 @@ ghost use Rattle.a64.specs.Conditions.{code, inverse};
 mod arith;
 mod bitfield;
 mod control;
-mod float;
 mod logic;
 mod memory;
 mod moves;
 mod select;
-mod sequences;
 
 pub use arith::add;
 pub use arith::add_imm;
@@ -51,6 +49,12 @@ pub use bitfield::tst_mask;
 pub use bitfield::ubfx;
 pub use bitfield::uxth;
 pub use chain::link;
+pub use constants::Sequence;
+pub use constants::add_imm32;
+pub use constants::gen_add_imm;
+pub use constants::ldr_lit_x;
+pub use constants::mov32;
+pub use constants::mov64;
 pub use control::adr;
 pub use control::b;
 pub use control::b_cond;
@@ -63,14 +67,14 @@ pub use control::cbz_x;
 pub use control::ret;
 pub use control::tbnz;
 pub use control::tbz;
-pub use float::fcmp;
-pub use float::fcvtzs;
-pub use float::fcvtzu;
-pub use float::fmov_s_w;
-pub use float::fmov_w_s;
-pub use float::fop;
-pub use float::scvtf;
-pub use float::ucvtf;
+pub use floats::fcmp;
+pub use floats::fcvtzs;
+pub use floats::fcvtzu;
+pub use floats::fmov_s_w;
+pub use floats::fmov_w_s;
+pub use floats::fop;
+pub use floats::scvtf;
+pub use floats::ucvtf;
 pub use logic::and;
 pub use logic::ands;
 pub use logic::bic;
@@ -116,24 +120,7 @@ pub use select::csel;
 pub use select::cset;
 pub use select::csinc;
 pub use select::csneg;
-pub use sequences::add_imm32;
-pub use sequences::gen_add_imm;
-pub use sequences::ldr_lit_x;
-pub use sequences::mov32;
-pub use sequences::mov64;
 pub use words::Encoded;
-pub use words::encode;
-pub use words::word;
-
-// What an encoder of several words answers.
-pub enum Sequence {
-    Empty,
-    One(u32),
-    Two(u32, u32),
-    Three(u32, u32, u32),
-    Four(u32, u32, u32, u32),
-    Refused(u32),
-}
 
 // The condition codes, by the numbers of the cond field.
 pub enum Cond {

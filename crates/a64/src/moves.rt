@@ -8,7 +8,7 @@ ghost use Rattle.arm.specs.declared.Move.the-variants.{Movn, Movz, Movk};
 ghost use Rattle.arm.specs.declared.Logic.the-variants.{Orr};
 ghost use Rattle.arm.specs.declared.Second.the-variants.{Plain, Inverted};
 ghost use Rattle.arm.specs.declared.Instr.the-variants.{MoveWide, LogicalShifted};
-ghost use Rattle.words.specs.Answers.{answer, answerIf};
+ghost use Rattle.words.specs.Answers.{answer, answerIf, told};
 use arm::Instr;
 use arm::Logic;
 use arm::Move;
@@ -20,7 +20,7 @@ use words::encode;
 use words::encode_if;
 
 pub fn movz(rd: u32, imm16: u32, shift: u32) -> Encoded
-    ensures { λ r. ⌜ r ≡ answerIf (eqb (shift % 16) 0) (MoveWide W Movz (shift / 16) (imm16 % 65536) rd) ⌝ }
+    ensures { λ r. ⌜ told r ≡ told (answerIf (eqb (shift % 16) 0) (MoveWide W Movz (shift / 16) (imm16 % 65536) rd)) ⌝ }
 {
     encode_if(
         shift % 16 == 0,
@@ -29,7 +29,7 @@ pub fn movz(rd: u32, imm16: u32, shift: u32) -> Encoded
 }
 
 pub fn movk(rd: u32, imm16: u32, shift: u32) -> Encoded
-    ensures { λ r. ⌜ r ≡ answerIf (eqb (shift % 16) 0) (MoveWide W Movk (shift / 16) (imm16 % 65536) rd) ⌝ }
+    ensures { λ r. ⌜ told r ≡ told (answerIf (eqb (shift % 16) 0) (MoveWide W Movk (shift / 16) (imm16 % 65536) rd)) ⌝ }
 {
     encode_if(
         shift % 16 == 0,
@@ -38,7 +38,7 @@ pub fn movk(rd: u32, imm16: u32, shift: u32) -> Encoded
 }
 
 pub fn movn(rd: u32, imm16: u32, shift: u32) -> Encoded
-    ensures { λ r. ⌜ r ≡ answerIf (eqb (shift % 16) 0) (MoveWide W Movn (shift / 16) (imm16 % 65536) rd) ⌝ }
+    ensures { λ r. ⌜ told r ≡ told (answerIf (eqb (shift % 16) 0) (MoveWide W Movn (shift / 16) (imm16 % 65536) rd)) ⌝ }
 {
     encode_if(
         shift % 16 == 0,
@@ -47,7 +47,7 @@ pub fn movn(rd: u32, imm16: u32, shift: u32) -> Encoded
 }
 
 pub fn movz_x(rd: u32, imm16: u32, shift: u32) -> Encoded
-    ensures { λ r. ⌜ r ≡ answerIf (eqb (shift % 16) 0) (MoveWide X Movz (shift / 16) (imm16 % 65536) rd) ⌝ }
+    ensures { λ r. ⌜ told r ≡ told (answerIf (eqb (shift % 16) 0) (MoveWide X Movz (shift / 16) (imm16 % 65536) rd)) ⌝ }
 {
     encode_if(
         shift % 16 == 0,
@@ -56,7 +56,7 @@ pub fn movz_x(rd: u32, imm16: u32, shift: u32) -> Encoded
 }
 
 pub fn movk_x(rd: u32, imm16: u32, shift: u32) -> Encoded
-    ensures { λ r. ⌜ r ≡ answerIf (eqb (shift % 16) 0) (MoveWide X Movk (shift / 16) (imm16 % 65536) rd) ⌝ }
+    ensures { λ r. ⌜ told r ≡ told (answerIf (eqb (shift % 16) 0) (MoveWide X Movk (shift / 16) (imm16 % 65536) rd)) ⌝ }
 {
     encode_if(
         shift % 16 == 0,
@@ -65,7 +65,7 @@ pub fn movk_x(rd: u32, imm16: u32, shift: u32) -> Encoded
 }
 
 pub fn mov(rd: u32, rm: u32) -> Encoded
-    ensures { λ r. ⌜ r ≡ answer (LogicalShifted W Orr Plain Lsl rm 0 31 rd) ⌝ }
+    ensures { λ r. ⌜ told r ≡ told (answer (LogicalShifted W Orr Plain Lsl rm 0 31 rd)) ⌝ }
 {
     encode(Instr::LogicalShifted(
         Size::W,
@@ -80,7 +80,7 @@ pub fn mov(rd: u32, rm: u32) -> Encoded
 }
 
 pub fn mov_x(rd: u32, rm: u32) -> Encoded
-    ensures { λ r. ⌜ r ≡ answer (LogicalShifted X Orr Plain Lsl rm 0 31 rd) ⌝ }
+    ensures { λ r. ⌜ told r ≡ told (answer (LogicalShifted X Orr Plain Lsl rm 0 31 rd)) ⌝ }
 {
     encode(Instr::LogicalShifted(
         Size::X,
@@ -95,7 +95,7 @@ pub fn mov_x(rd: u32, rm: u32) -> Encoded
 }
 
 pub fn mvn(rd: u32, rm: u32) -> Encoded
-    ensures { λ r. ⌜ r ≡ answer (LogicalShifted W Orr Inverted Lsl rm 0 31 rd) ⌝ }
+    ensures { λ r. ⌜ told r ≡ told (answer (LogicalShifted W Orr Inverted Lsl rm 0 31 rd)) ⌝ }
 {
     encode(Instr::LogicalShifted(
         Size::W,

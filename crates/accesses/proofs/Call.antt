@@ -1,7 +1,7 @@
 -- A helper call: what the machine does where the block asks the outside.
 --     kept-called         the relation's parts after a call that met an outcome
 --     homed-called        the whole of it, the guest registers in the processor record
---     exec-call           the branch to a helper
+--     exec-read, exec-write    the branch to a helper
 use mathlib.Core.Path.{_≡_, refl, sym, ap, _∙_, subst}
 use mathlib.Core.Logic.{_≢_, _⊎_, inl, inr}
 use mathlib.Core.Bool.{Bool, true, false, not, _&&_}

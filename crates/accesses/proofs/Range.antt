@@ -1,5 +1,4 @@
 -- The range test of an access: is the offset from a region's base inside it?
---     Tested              what is known then: the offset in w3, the limit in w2, and the flags of their comparison
 --     range-frag          the code of the test
 --     range-in, range-out     its jump is not taken inside, and taken outside
 use mathlib.Core.Path.{_≡_, refl, ap, _∙_}

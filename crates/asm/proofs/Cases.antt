@@ -10,6 +10,7 @@ use borrow.Author.Tests.{lt-ltb, le-ltb, eq-eqb, ne-eqb}
 use lib.IntN.{pos}
 use Rattle.arm.specs.Instr.{encode}
 use Rattle.code.specs.Items.{index, ldr, fill, literal, go}
+use Rattle.asm.specs.declared.Reference.the-variants.{ToPool}
 use Rattle.asm.specs.State.{literalRoom, literalsAt, State, state, counts, kept, held, literalsFrom, keepAt, fixed, put}
 
 -- ---- the search: the first i are passed
@@ -56,9 +57,11 @@ module _ (i v k : ℕ) (s : State) (e : k ≡ kept s) where
   keep-full h l = rw (← e, le-ltb i k h, le-ltb k literalRoom l)
 
 -- ---- the load: found, kept, and the word with its fix-up
-pub lit-put : (rt v k i w : ℕ) (s s₁ s₂ : State) → k ≡ kept s → i ≡ index v (literalsFrom 0 k (s .tab)) → s₁ ≡ keepAt i v s → w ≡ encode (fill (ldr rt) (pos 0)) → s₂ ≡ fixed 4 i w s₁
+pub lit-put : (rt v k i w : ℕ) (s s₁ s₂ : State) → k ≡ kept s → i ≡ index v (literalsFrom 0 k (s .tab)) → s₁ ≡ keepAt i v s
+    → w ≡ encode (fill (ldr rt) (pos 0)) → s₂ ≡ fixed (ToPool i) w s₁
     → s₂ ≡ put (go (ldr rt) (literal v)) s
 unfolding put held
 lit-put rt v k i w s s₁ s₂ e q p f r =
     let j : i ≡ index v (literalsFrom 0 (kept s) (s .tab)) = q ∙ ap (λ n. index v (literalsFrom 0 n (s .tab))) e in
-    r ∙ ap (λ t. fixed 4 i w t) p ∙ ap (λ x. fixed 4 i x (keepAt i v s)) f ∙ ap (λ n. fixed 4 n (encode (fill (ldr rt) (pos 0))) (keepAt n v s)) j
+    r ∙ ap (λ t. fixed (ToPool i) w t) p ∙ ap (λ x. fixed (ToPool i) x (keepAt i v s)) f
+    ∙ ap (λ n. fixed (ToPool n) (encode (fill (ldr rt) (pos 0))) (keepAt n v s)) j

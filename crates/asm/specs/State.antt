@@ -1,16 +1,20 @@
 -- The assembler's state, and what each item does to it: lent words, one lent table, and counts that stop at 2 ^ 20.
 use mathlib.Core.List.{List, [], _∷_}
-use Prim.Native.Nat.{ℕ, zero, suc, _+_, _*_, _%_, _^_}
-use lib.Dec.{ltb}
+use Prim.Native.Nat.{ℕ, zero, suc, _+_, _*_, _/_, _%_, _^_}
+use lib.Dec.{ltb, eqb}
 use lib.IntN.{pos}
 use lib.ListN.{set, getD}
 use Rattle.arm.specs.Instr.{encode}
 use Rattle.code.specs.Items.{pick, fill, label, literal, Item, ins, go, new, bind, index}
+use Rattle.code.specs.declared.Fix.{Fix}
+use Rattle.code.specs.declared.Fix.the-variants.{B26, B19, B14, Adr21}
 use Rattle.code.specs.Emit.{kind}
-use Rattle.code.specs.Tree.{Depth, Var, Code}
-use Rattle.code.specs.Lent.{bumped, fieldNo, calls}
+use Rattle.code.specs.Calls.{bumped}
 use Rattle.asm.specs.declared.Asm.{Asm}
+use Rattle.asm.specs.declared.Label.{Label}
 use Rattle.asm.specs.declared.Made.{Made}
+use Rattle.asm.specs.declared.Reference.{Reference}
+use Rattle.asm.specs.declared.Reference.the-variants.{ToLabel, ToPool}
 
 pub record State : Type 0 where
   pub words : List ℕ
@@ -52,9 +56,36 @@ tableRoom = fixupsAt + fixupRoom
 unfoldable pub labelled : ℕ → ℕ → List ℕ → List ℕ
 labelled l p t = pick (ltb l labelRoom) (set t l p) t
 
--- position, number of a label or a literal, and kind, in 64 bits
-unfoldable pub packed : ℕ → ℕ → ℕ → ℕ
-packed p goal kind = p * 2 ^ 32 + goal % 2 ^ 29 * 8 + kind
+-- ---- a fix-up's cell: its position, and its reference by two numbers, that of the label or the literal and that of the kind
+abbrev pub labelOf : ℕ → Label
+labelOf n = record { 0 = n }
+
+abbrev pub fixNo : Fix → ℕ
+fixNo B26 = 0
+fixNo B19 = 1
+fixNo B14 = 2
+fixNo Adr21 = 3
+
+abbrev pub kindNo : Reference → ℕ
+kindNo (ToLabel l f) = fixNo f
+kindNo (ToPool i) = 4
+
+abbrev pub goalNo : Reference → ℕ
+goalNo (ToLabel l f) = l .0
+goalNo (ToPool i) = i
+
+unfoldable pub refNo : Reference → ℕ
+refNo r = goalNo r % 2 ^ 29 * 8 + kindNo r
+
+unfoldable pub packed : ℕ → Reference → ℕ
+packed p r = p * 2 ^ 32 + refNo r
+
+-- back, from any number
+unfoldable pub fixOf : ℕ → Fix
+fixOf k = pick (eqb k 0) B26 (pick (eqb k 2) B14 (pick (eqb k 3) Adr21 B19))
+
+unfoldable pub refOf : ℕ → Reference
+refOf n = pick (eqb (n % 8) 4) (ToPool (n / 8)) (ToLabel (labelOf (n / 8)) (fixOf (n % 8)))
 
 unfoldable pub fixup : ℕ → ℕ → List ℕ → List ℕ
 fixup n f t = pick (ltb n fixupRoom) (set t (fixupsAt + n) f) t
@@ -68,18 +99,14 @@ literalsFrom i (suc k) t = getD t (literalsAt + i) 0 ∷ literalsFrom (suc i) k 
 unfoldable pub word : ℕ → State → State
 word w s = state (set (s .words) (s .asm .at) w) (s .tab) (counts (bumped (s .asm .at)) (s .asm .labels) (s .asm .fixups) (s .asm .literals))
 
-unfoldable pub wordAll : List ℕ → State → State
-wordAll [] s = s
-wordAll (w ∷ ws) s = wordAll ws (word w s)
-
 -- a label's number is given out
 unfoldable pub made : Asm → Made
-made a = record { a = counts (a .at) (bumped (a .labels)) (a .fixups) (a .literals); l = record { 0 = a .labels } }
+made a = record { a = counts (a .at) (bumped (a .labels)) (a .fixups) (a .literals); l = labelOf (a .labels) }
 
--- a word with its fix-up: of this kind, to the label or literal of this number
-unfoldable pub fixed : (kind goal w : ℕ) → State → State
-fixed k g w s =
-    state (set (s .words) (s .asm .at) w) (fixup (s .asm .fixups) (packed (s .asm .at) g k) (s .tab))
+-- a word with its fix-up
+unfoldable pub fixed : Reference → (w : ℕ) → State → State
+fixed r w s =
+    state (set (s .words) (s .asm .at) w) (fixup (s .asm .fixups) (packed (s .asm .at) r) (s .tab))
     (counts (bumped (s .asm .at)) (s .asm .labels) (bumped (s .asm .fixups)) (s .asm .literals))
 
 -- the literals so far
@@ -98,15 +125,11 @@ keepAt i v s =
 -- ---- ONE ITEM
 unfoldable pub put : Item → State → State
 put (ins i) s = word (encode i) s
-put (go h (label l)) s = fixed (fieldNo (kind h)) l (encode (fill h (pos 0))) s
-put (go h (literal v)) s = fixed 4 (index v (held s)) (encode (fill h (pos 0))) (keepAt (index v (held s)) v s)
+put (go h (label l)) s = fixed (ToLabel (labelOf l) (kind h)) (encode (fill h (pos 0))) s
+put (go h (literal v)) s = fixed (ToPool (index v (held s))) (encode (fill h (pos 0))) (keepAt (index v (held s)) v s)
 put new s = state (s .words) (s .tab) (made (s .asm) .a)
 put (bind l) s = state (s .words) (labelled l (s .asm .at) (s .tab)) (s .asm)
 
 unfoldable pub run : List Item → State → State
 run [] s = s
 run (i ∷ is) s = run is (put i s)
-
--- THE STATE BEHIND STRUCTURED CODE: what a fragment's contract states
-unfoldable pub after : {n : Depth} → Code n → (Var n → ℕ) → ℕ → State → State
-after c e x s = run (calls c e x (s .asm .labels)) s

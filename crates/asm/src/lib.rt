@@ -6,8 +6,11 @@ ghost use lib.ListN.{set};
 ghost use Rattle.arm.specs.declared.Size.the-variants.{W};
 ghost use Rattle.arm.specs.declared.Test.the-variants.{Zero, Nonzero};
 ghost use Rattle.code.specs.Items.{b as bHole, bCond, cb, tb, adr as adrHole, ldr, label as toLabel, literal, go, bind as bindItem, index};
-ghost use Rattle.code.specs.Lent.{bumped};
-ghost use Rattle.asm.specs.State.{literalRoom, state, atMost, packed, fixup, labelled, literalsFrom, word, made, fixed, keepAt, put as putItem, begin};
+ghost use Rattle.code.specs.Calls.{bumped};
+ghost use Rattle.asm.specs.State.{literalRoom, state, atMost, labelled, literalsFrom, word, made, fixed, keepAt, put as putItem};
+ghost use Rattle.asm.specs.State.{begin};
+ghost use Rattle.asm.specs.State.{fixNo, fixOf, refNo, refOf, packed, fixup};
+use code::Fix;
 
 // The table: the positions of so many labels, so many literals, so many fix-ups. Sized for 32 operations that move
 // groups of registers, each a store of its own with its tests, and a guard.
@@ -23,19 +26,14 @@ pub const FIXUPS_AT: usize = 2056;
 
 pub const TABLE: usize = 6152;
 
-// The kinds of fix-ups: the fields of a distance to a label, as the Rust names them, and a load's distance to its literal.
-pub const B26: u32 = 0;
-
-pub const B19: u32 = 1;
-
-pub const B14: u32 = 2;
-
-pub const ADR21: u32 = 3;
-
-pub const LITERAL: u32 = 4;
-
 // A label's number is never a word's position.
 pub struct Label(pub u32);
+
+// Where the distance of a word leads: to a label, in this field, or to an entry of the literal pool.
+pub enum Reference {
+    ToLabel(Label, Fix),
+    ToPool(u32),
+}
 
 // How many words, labels, fix-ups and literals there are.
 pub struct Asm {
@@ -131,25 +129,65 @@ pub fn bind(words: &mut [u32], tab: &mut [u64; TABLE], a: Asm, l: Label)
     put_label(tab, l, at);
 }
 
-fn put_fixup(tab: &mut [u64; TABLE], n: u32, at: u32, goal: u32, kind: u32)
-    requires { ⌜ kind < 8 ⌝ }
-    ensures { λ r. ⌜ now (tab .exit) ≡ fixup n (packed at goal kind) (now (tab .entry)) ⌝ }
+// The number of a field in a cell.
+fn fix_number(f: Fix) -> u32
+    ensures { λ r. ⌜ (r ≡ fixNo f) × (r < 4) ⌝ }
 {
-    if n < FIXUPS {
-        tab[FIXUPS_AT + (n as usize)] = (at as u64) * 4294967296
-            + (goal as u64) % 536870912 * 8
-            + (kind as u64);
+    match f {
+        Fix::B26 => 0,
+        Fix::B19 => 1,
+        Fix::B14 => 2,
+        Fix::Adr21 => 3,
     }
 }
 
-// A word whose distance to the label or literal of this number is patched at the end.
-fn fix(words: &mut [u32], tab: &mut [u64; TABLE], a: Asm, kind: u32, goal: u32, w: u32) -> Asm
-    requires { ⌜ kind < 8 ⌝ }
-    ensures { λ r. ⌜ state (now (words .exit)) (now (tab .exit)) r ≡ fixed kind goal w (state (now (words .entry)) (now (tab .entry)) a) ⌝ }
+// The low half of a fix-up's cell.
+fn ref_number(to: Reference) -> u32
+    ensures { λ r. ⌜ r ≡ refNo to ⌝ }
+{
+    match to {
+        Reference::ToLabel(l, f) => l.0 % 536870912 * 8 + fix_number(f),
+        Reference::ToPool(i) => i % 536870912 * 8 + 4,
+    }
+}
+
+// The field of such a number, and of any other.
+fn fix_of(kind: u32) -> Fix
+    ensures { λ r. ⌜ r ≡ fixOf kind ⌝ }
+{
+    match kind {
+        0 => Fix::B26,
+        2 => Fix::B14,
+        3 => Fix::Adr21,
+        _ => Fix::B19,
+    }
+}
+
+// The reference that the low half of a cell holds, whatever it is.
+pub fn ref_of(n: u32) -> Reference
+    ensures { λ r. ⌜ r ≡ refOf n ⌝ }
+{
+    if n % 8 == 4 {
+        return Reference::ToPool(n / 8);
+    }
+    Reference::ToLabel(Label(n / 8), fix_of(n % 8))
+}
+
+fn put_fixup(tab: &mut [u64; TABLE], n: u32, at: u32, to: Reference)
+    ensures { λ r. ⌜ now (tab .exit) ≡ fixup n (packed at to) (now (tab .entry)) ⌝ }
+{
+    if n < FIXUPS {
+        tab[FIXUPS_AT + (n as usize)] = (at as u64) * 4294967296 + (ref_number(to) as u64);
+    }
+}
+
+// A word whose distance is patched at the end.
+fn fix(words: &mut [u32], tab: &mut [u64; TABLE], a: Asm, to: Reference, w: u32) -> Asm
+    ensures { λ r. ⌜ state (now (words .exit)) (now (tab .exit)) r ≡ fixed to w (state (now (words .entry)) (now (tab .entry)) a) ⌝ }
 {
     let n = a.fixups;
     let at = a.at;
-    put_fixup(tab, n, at, goal, kind);
+    put_fixup(tab, n, at, to);
     store(words, at, w);
     Asm {
         at: bump(at),
@@ -162,28 +200,46 @@ fn fix(words: &mut [u32], tab: &mut [u64; TABLE], a: Asm, kind: u32, goal: u32, 
 pub fn b(words: &mut [u32], tab: &mut [u64; TABLE], a: Asm, l: Label) -> Asm
     ensures { λ r. ⌜ state (now (words .exit)) (now (tab .exit)) r ≡ putItem (go bHole (toLabel (l .0))) (state (now (words .entry)) (now (tab .entry)) a) ⌝ }
 {
-    fix(words, tab, a, B26, l.0, 0x1400_0000)
+    fix(words, tab, a, Reference::ToLabel(l, Fix::B26), 0x1400_0000)
 }
 
 pub fn b_cond(words: &mut [u32], tab: &mut [u64; TABLE], a: Asm, cond: u32, l: Label) -> Asm
     requires { ⌜ cond < 16 ⌝ }
     ensures { λ r. ⌜ state (now (words .exit)) (now (tab .exit)) r ≡ putItem (go (bCond cond) (toLabel (l .0))) (state (now (words .entry)) (now (tab .entry)) a) ⌝ }
 {
-    fix(words, tab, a, B19, l.0, 0x5400_0000 + cond)
+    fix(
+        words,
+        tab,
+        a,
+        Reference::ToLabel(l, Fix::B19),
+        0x5400_0000 + cond,
+    )
 }
 
 pub fn cbz(words: &mut [u32], tab: &mut [u64; TABLE], a: Asm, rt: u32, l: Label) -> Asm
     requires { ⌜ rt < 32 ⌝ }
     ensures { λ r. ⌜ state (now (words .exit)) (now (tab .exit)) r ≡ putItem (go (cb W Zero rt) (toLabel (l .0))) (state (now (words .entry)) (now (tab .entry)) a) ⌝ }
 {
-    fix(words, tab, a, B19, l.0, 0x3400_0000 + rt)
+    fix(
+        words,
+        tab,
+        a,
+        Reference::ToLabel(l, Fix::B19),
+        0x3400_0000 + rt,
+    )
 }
 
 pub fn cbnz(words: &mut [u32], tab: &mut [u64; TABLE], a: Asm, rt: u32, l: Label) -> Asm
     requires { ⌜ rt < 32 ⌝ }
     ensures { λ r. ⌜ state (now (words .exit)) (now (tab .exit)) r ≡ putItem (go (cb W Nonzero rt) (toLabel (l .0))) (state (now (words .entry)) (now (tab .entry)) a) ⌝ }
 {
-    fix(words, tab, a, B19, l.0, 0x3500_0000 + rt)
+    fix(
+        words,
+        tab,
+        a,
+        Reference::ToLabel(l, Fix::B19),
+        0x3500_0000 + rt,
+    )
 }
 
 pub fn tbz(words: &mut [u32], tab: &mut [u64; TABLE], a: Asm, rt: u32, bit: u32, l: Label) -> Asm
@@ -194,8 +250,7 @@ pub fn tbz(words: &mut [u32], tab: &mut [u64; TABLE], a: Asm, rt: u32, bit: u32,
         words,
         tab,
         a,
-        B14,
-        l.0,
+        Reference::ToLabel(l, Fix::B14),
         0x3600_0000 + bit / 32 * 0x8000_0000 + bit % 32 * 0x8_0000 + rt,
     )
 }
@@ -208,8 +263,7 @@ pub fn tbnz(words: &mut [u32], tab: &mut [u64; TABLE], a: Asm, rt: u32, bit: u32
         words,
         tab,
         a,
-        B14,
-        l.0,
+        Reference::ToLabel(l, Fix::B14),
         0x3700_0000 + bit / 32 * 0x8000_0000 + bit % 32 * 0x8_0000 + rt,
     )
 }
@@ -218,7 +272,13 @@ pub fn adr(words: &mut [u32], tab: &mut [u64; TABLE], a: Asm, rd: u32, l: Label)
     requires { ⌜ rd < 32 ⌝ }
     ensures { λ r. ⌜ state (now (words .exit)) (now (tab .exit)) r ≡ putItem (go (adrHole rd) (toLabel (l .0))) (state (now (words .entry)) (now (tab .entry)) a) ⌝ }
 {
-    fix(words, tab, a, ADR21, l.0, 0x1000_0000 + rd)
+    fix(
+        words,
+        tab,
+        a,
+        Reference::ToLabel(l, Fix::Adr21),
+        0x1000_0000 + rd,
+    )
 }
 
 // The number of a value among the first k literals, k where it is none of them.
@@ -262,5 +322,5 @@ pub fn ldr_lit_x(words: &mut [u32], tab: &mut [u64; TABLE], a: Asm, rt: u32, val
 {
     let i = find(tab, at_most(LITERALS, a.literals), value);
     let a = keep_literal(words, tab, a, i, value);
-    fix(words, tab, a, LITERAL, i, 0x5800_0000 + rt)
+    fix(words, tab, a, Reference::ToPool(i), 0x5800_0000 + rt)
 }

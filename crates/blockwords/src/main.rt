@@ -1,4 +1,6 @@
 // Reads a block record from standard input, and writes its listing, or why it is refused: document 01, "A whole listing".
+ghost use Rattle.text.specs.Put.{Placed};
+ghost use Rattle.blockwords.specs.Text.{answerText};
 use input::Whole;
 use libc::STDOUT_FILENO;
 use translation::Sites;
@@ -9,10 +11,13 @@ const LENT: usize = 16384;
 // Nine bytes a word, and the lines of the counts and of two sites.
 const ROOM: usize = 147584;
 
-fn put_translation(out: &mut [u8], record: &[u8]) -> usize {
+// The listing of a record's words, or why it is refused.
+fn put_translation(out: &mut [u8], bytes: &[u8]) -> usize
+    ensures { λ r. ⌜ Placed (answerText (now (bytes .entry))) (now (out .entry)) 0 (now (out .exit)) r ⌝ }
+{
     let mut words = [0u32; LENT];
     let mut table = [0u64; 6152];
-    match translation::translate(record, &mut words, &mut table) {
+    match translation::translate(bytes, &mut words, &mut table) {
         Translated::Accepted(n, body, sites) => {
             let k = text::among(n as usize, &words);
             match sites {

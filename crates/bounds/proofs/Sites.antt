@@ -25,20 +25,17 @@ use Rattle.block.specs.declared.Block.{Block}
 use Rattle.block.specs.Block.{opsOf, mayJump, usesBus}
 use Rattle.code.specs.Items.{pick, Rise}
 use Rattle.code.specs.Tree.{Depth, top, under, Code, code, lit, to, exit, block, start, _then_, words}
+use Rattle.code.proofs.Order.{rise-append}
 use Rattle.lowering.specs.declared.RegCache.{RegCache}
 use Rattle.lowering.specs.Instrs.{NE, EQ, sbfx, ubfx, tst}
 use Rattle.lowering.specs.Cache.{emptyCache}
 use Rattle.lowering.specs.Steps.{Step, lowered, behind, opSteps, opsSteps, blockSteps, rhs, base, un, div, low, rmwValue}
 use Rattle.lowering.specs.Fragments.{brkFirst, tryRegion, oddTest, mapTest, call, exitImm, chain, ind, checkBrk, fork, limit, load, store, stepCode, stepCache, stepsCode, opening}
 use Rattle.lowering.specs.Compile.{blockCode, starts, targets}
+use Rattle.lowering.proofs.Targets.{targets-append}
 use Rattle.bounds.specs.Whole.{Sited}
 
 -- ---- positions
-rise-append : (p q r : ℕ) (xs ys : List ℕ) → Rise p q xs → Rise q r ys → Rise p r (xs ++ ys)
-rise-append p q r [] [] h k = omega arith
-rise-append p q r [] (y ∷ ys) h k = (omega (arith, k .0), k .1)
-rise-append p q r (x ∷ xs) ys h k = (h .0, rise-append (suc x) q r xs ys (h .1) k)
-
 -- no address is taken
 abbrev None : {n : Depth} → Code n → Type 0
 None (code is) = Unit {0}
@@ -132,23 +129,6 @@ module _ (blk : Block) (rc : RegCache) where
   step-sites (Step.fork cond pc target count) = record { flat = ((tt, (tt, ((tt, tt), (tt, tt)))), (tt, ((tt, tt), (tt, tt)))); many = λ p. refl }
   step-sites (Step.ind t count brk) = no-sites _ _ refl (tt, ((flat-brk _ brk, (tt, (tt, (tt, (tt, tt))))), (tt, tt)))
   step-sites (Step.limit pc count) = no-sites _ _ refl (tt, (tt, (tt, tt)))
-
-targets-append : (xs ys : List Step) → targets (xs ++ ys) ≡ targets xs ++ targets ys
-targets-append [] ys = refl
-targets-append (Step.ldReg t r ∷ ss) ys = targets-append ss ys
-targets-append (Step.stReg t r ∷ ss) ys = targets-append ss ys
-targets-append (Step.ldField f t ∷ ss) ys = targets-append ss ys
-targets-append (Step.stField f t ∷ ss) ys = targets-append ss ys
-targets-append (Step.mov32 t v ∷ ss) ys = targets-append ss ys
-targets-append (Step.addImm d s v ∷ ss) ys = targets-append ss ys
-targets-append (Step.ins i ∷ ss) ys = targets-append ss ys
-targets-append (Step.load w signed i ∷ ss) ys = targets-append ss ys
-targets-append (Step.store w i ∷ ss) ys = targets-append ss ys
-targets-append (Step.checkBrk glue pc count ∷ ss) ys = targets-append ss ys
-targets-append (Step.chain pc count ∷ ss) ys = ap (λ ts. pc ∷ ts) (targets-append ss ys)
-targets-append (Step.fork cond pc target count ∷ ss) ys = ap (λ ts. pc ∷ target ∷ ts) (targets-append ss ys)
-targets-append (Step.ind t count brk ∷ ss) ys = targets-append ss ys
-targets-append (Step.limit pc count ∷ ss) ys = targets-append ss ys
 
 steps-flat : (blk : Block) (rc : RegCache) (ss : List Step) → Flat (stepsCode blk rc ss)
 unfolding stepsCode

@@ -2,7 +2,7 @@
 // name that is none of them is looked for in the function that the last arm calls.
 use a64::Cond;
 use a64::Encoded;
-use a64::Sequence;
+use constants::Sequence;
 
 // What answers a line that is no call: a refusal by a number that no refusal has.
 pub const UNKNOWN: u32 = 0;

@@ -11,7 +11,7 @@ pub data Request : Type 0 where
   read : (address width done : ℕ) → Request
   write : (address width done value : ℕ) → Request
 
--- "The outside is a list of outcomes: an answer that fits the width, the break word, RAM and map afterwards". What else a call
+-- "The outside is a list of outcomes .. : an answer that fits the width, the break word, RAM and map afterwards". What else a call
 -- alters is not the card's.
 pub record Outcome : Type 0 where
   pub answer : ℕ

@@ -131,7 +131,7 @@ quotU a b = unlessZero b (a / b)
 abbrev pub quotS : ℕ → ℕ → ℕ
 quotS a b = unlessZero b (bitsOf (quotZ (signedOf a) (signedOf b)))
 
--- "a remainder is a - q * b, and 0 for a divisor of 0"
+-- a remainder is a - q * b, and 0 for a divisor of 0
 abbrev pub remainder : (q a b : ℕ) → ℕ
 remainder q a b = unlessZero b (bitsOf (pos a -ℤ pos (q * b)))
 

@@ -1,9 +1,9 @@
 -- A run of a block: the start, and what the end must show. The numbers are those of an independent A64 emulator on the block's words.
 use mathlib.Core.Bool.{Bool, cond}
-use mathlib.Core.List.{List, [], _∷_}
+use mathlib.Core.List.{List, [], _∷_, _++_}
 use Prim.Native.Nat.{ℕ, zero, suc, _*_, _/_, _%_, _^_}
 use lib.Dec.{eqb}
-use lib.ListN.{length}
+use lib.ListN.{length, set}
 use Rattle.block.specs.declared.Fast.{Fast}
 use Rattle.block.specs.declared.BOp.{BOp}
 use Rattle.block.specs.declared.Memory.{Memory}
@@ -17,6 +17,14 @@ use Rattle.card.specs.Run.{End, left, stopped, run}
 abbrev pub hex : ℕ → ℕ → List ℕ
 hex zero x = []
 hex (suc n) x = x / 256 ^ n % 256 ∷ hex n x
+
+-- n words, and the sixteen registers as two times eight, the first first
+abbrev pub words : ℕ → ℕ → List ℕ
+words zero x = []
+words (suc n) x = x / 2 ^ (32 * n) % 2 ^ 32 ∷ words n x
+
+abbrev pub regs : (low high : ℕ) → List ℕ
+regs a b = words 8 a ++ words 8 b
 
 abbrev pub memory : (ramBase ramLen xipBase xipLen : ℕ) → Bool → Memory
 memory rb rl xb xl m = record { «ram_base» = rb; «ram_len» = rl; «xip_base» = xb; «xip_len» = xl; map = m }
@@ -84,16 +92,47 @@ abbrev pub shown : List Entry → End → Shown
 shown es (left w c) = shownBy (seen es w (c .pc)) c
 shown es (stopped c) = shownBy dry c
 
-pub record Case : Type 0 where
-  pub code : Block
-  pub flash : List ℕ
-  pub limit : ℕ
-  pub start : Card
-  pub table : List Entry
-  pub end : Shown
+-- in what the end differs from the start
+pub data Changes : Type 0 where
+  reg cell : (n value : ℕ) → Changes
+  ram map : List ℕ → Changes
+  _&_ : Changes → Changes → Changes
+
+infixr 80 _&_
+abbrev pub changed : Changes → Shown → Shown
+changed (reg n v) s = shows (s .leaving) (set (s .regs) n v) (s .cells) (s .ram) (s .map) (s .requests)
+changed (cell n v) s = shows (s .leaving) (s .regs) (set (s .cells) n v) (s .ram) (s .map) (s .requests)
+changed (ram l) s = shows (s .leaving) (s .regs) (s .cells) l (s .map) (s .requests)
+changed (map l) s = shows (s .leaving) (s .regs) (s .cells) (s .ram) l (s .requests)
+changed (c & d) s = changed d (changed c s)
+
+abbrev pub sp : ℕ → Changes
+sp = cell 0
+
+abbrev pub rets : ℕ → Changes
+rets = cell 1
+
+abbrev pub hold : ℕ → Changes
+hold = cell 2
+
+abbrev pub brk : ℕ → Changes
+brk = cell 3
+
+abbrev pub pc : ℕ → Changes
+pc = cell 4
+
+abbrev pub done : ℕ → Changes
+done = cell 5
+
+-- a run: the block, flash, the limit, the start, the entries of the jump table, and the end
+pub data Case : Type 0 where
+  runs : Block → (flash : List ℕ) → (limit : ℕ) → Card → List Entry → Seen → Changes → List Request → Case
 
 abbrev pub ends : Case → Shown
-ends k = shown (k .table) (run (k .code) (k .flash) (k .limit) (k .start))
+ends (runs b f n c es w d qs) = shown es (run b f n c)
+
+abbrev pub end : Case → Shown
+end (runs b f n c es w d qs) = let s : Shown = changed d (shownBy w c) in shows w (s .regs) (s .cells) (s .ram) (s .map) qs
 
 -- ---- lists of cases
 abbrev pub reached : List Case → List Shown
@@ -102,4 +141,4 @@ reached (k ∷ ks) = ends k ∷ reached ks
 
 abbrev pub expected : List Case → List Shown
 expected [] = []
-expected (k ∷ ks) = k .end ∷ expected ks
+expected (k ∷ ks) = end k ∷ expected ks

@@ -12,9 +12,8 @@ use mir.Val.{SFits, toZ, ofZ}
 use mir.Facts.{toZ-ofZ}
 use Rattle.arm.specs.declared.Instr.the-variants.{Branch}
 use Rattle.arm.specs.Instr.{encode}
-use Rattle.words.specs.declared.Encoded.{Encoded}
-use Rattle.words.specs.declared.Encoded.the-variants.{Word, Refused}
-use Rattle.words.specs.Answers.{answer}
+use Rattle.words.specs.declared.Encoded.the-variants.{Refused}
+use Rattle.words.specs.Answers.{answer, Told, accepted, told}
 use Rattle.words.specs.Signed.{reaches, twos}
 use Rattle.chain.specs.Link.{distance, linked}
 use Rattle.words.proofs.Answers.{carried-word}
@@ -95,19 +94,22 @@ module _ (site body : ℤ) (s : SFits w64 site) (b : SFits w64 body) where
   words-held p q = toZ-ofZ difference-fits ∙ quarters-are ∙ words-are site body p q
 
 -- the four answers
-pub site-unaligned : (site body : ℤ) (n : ℕ) → n ≡ twos 2 site → (n ≡ 0 → ⊥) → Refused 12 ≡ linked site body
+pub site-unaligned : (site body : ℤ) (n : ℕ) → n ≡ twos 2 site → (n ≡ 0 → ⊥) → told (Refused 12) ≡ told (linked site body)
 unfolding linked
 site-unaligned site body n e h = simp (ne-eqb (twos 2 site) 0 (λ z. h (e ∙ z)))
 
-pub body-unaligned : (site body : ℤ) (n : ℕ) → twos 2 site ≡ 0 → n ≡ twos 2 body → (n ≡ 0 → ⊥) → Refused 12 ≡ linked site body
+pub body-unaligned : (site body : ℤ) (n : ℕ) → twos 2 site ≡ 0 → n ≡ twos 2 body → (n ≡ 0 → ⊥) → told (Refused 12) ≡ told (linked site body)
 unfolding linked
 body-unaligned site body n a e h = simp (eq-eqb (twos 2 site) 0 a, ne-eqb (twos 2 body) 0 (λ z. h (e ∙ z)))
 
-pub in-reach : (site body : ℤ) (r : Encoded) (n : ℕ) → twos 2 site ≡ 0 → twos 2 body ≡ 0 → true ≡ reaches (2 ^ 25) (distance site body) → r ≡ answer (Branch n) → n ≡ twos (2 ^ 25) (distance site body) → n < 2 ^ 26 → r ≡ linked site body
+pub in-reach : (site body : ℤ) (t : Told ℕ) (n : ℕ) → twos 2 site ≡ 0 → twos 2 body ≡ 0 → true ≡ reaches (2 ^ 25) (distance site body)
+    → t ≡ told (answer (Branch n)) → n ≡ twos (2 ^ 25) (distance site body) → n < 2 ^ 26 → t ≡ told (linked site body)
 unfolding linked
-in-reach site body r n a c t h e k =
-    simp (eq-eqb (twos 2 site) 0 a, eq-eqb (twos 2 body) 0 c, sym t) (h ∙ carried-word (Branch n) ((k, tt), tt) ∙ ap (λ (m : ℕ). Word (encode (Branch m))) e)
+in-reach site body t n a c r h e k =
+    simp (eq-eqb (twos 2 site) 0 a, eq-eqb (twos 2 body) 0 c, sym r)
+    (h ∙ ap told (carried-word (Branch n) ((k, tt), tt)) ∙ ap (λ (m : ℕ). accepted (encode (Branch m))) e)
 
-pub out-of-reach : (site body : ℤ) → twos 2 site ≡ 0 → twos 2 body ≡ 0 → false ≡ reaches (2 ^ 25) (distance site body) → Refused 11 ≡ linked site body
+pub out-of-reach : (site body : ℤ) → twos 2 site ≡ 0 → twos 2 body ≡ 0 → false ≡ reaches (2 ^ 25) (distance site body)
+    → told (Refused 11) ≡ told (linked site body)
 unfolding linked
 out-of-reach site body a c t = simp (eq-eqb (twos 2 site) 0 a, eq-eqb (twos 2 body) 0 c, sym t)

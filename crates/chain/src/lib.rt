@@ -1,5 +1,6 @@
 // The link of a chain site with a body.
 ghost use mathlib.Core.Path.{_≡_};
+ghost use Rattle.words.specs.Answers.{told};
 ghost use Rattle.chain.specs.Link.{linked};
 use arm::Instr;
 use words::Encoded;
@@ -11,7 +12,7 @@ use words::twos;
 const HALF_26: u32 = 0x200_0000;
 
 pub fn link(site: i64, body: i64) -> Encoded
-    ensures { λ r. ⌜ r ≡ linked site body ⌝ }
+    ensures { λ r. ⌜ told r ≡ told (linked site body) ⌝ }
 {
     if twos(2, site) != 0 {
         return Encoded::Refused(12);

@@ -1,32 +1,20 @@
 -- What is emitted and patched is the listing of the items.
 use mathlib.Core.Path.{_≡_, refl, sym, ap, ap₂, subst, _∙_}
-use mathlib.Core.Logic.{_≢_}
 use mathlib.Core.Bool.{Bool, true, false}
-use mathlib.Core.List.{List, [], _∷_, _++_, map, append-nil, append-assoc}
-use Prim.Native.Nat.{ℕ, zero, suc, _+_, _-_, _*_, _/_, _%_, _^_, _<_, _≤_}
+use mathlib.Core.List.{List, [], _∷_, _++_, map, append-nil}
+use Prim.Native.Nat.{ℕ, suc, _+_, _-_, _*_, _%_, _^_}
 use native.Mathlib.Omega.{arith}
 use lib.Dec.{eqb}
-use lib.IntN.{ℤ, pos, negsuc, subℕ}
+use lib.IntN.{pos}
 use lib.ListN.{length, getD, set, length-append, length-set}
 use lib.Seq.{set-at, getD-at, getD-set-same, getD-set-other, append-snoc}
-use borrow.Author.Tests.{eqb-true, eqb-false, eq-eqb, ne-eqb}
+use borrow.Author.Tests.{eqb-true, eqb-false, eq-eqb}
 use Rattle.arm.specs.declared.Instr.{Instr}
 use Rattle.arm.specs.Instr.{encode, Carried}
-use Rattle.code.specs.Items.{pick, Hole, fill, Place, label, literal, Item, ins, go, new, bind, dist, resolve, size, placeOf, binds, index, add, poolOf, halves, padOf, baseOf, placesOf, listing, Once, Met, Below, Reach, Sound}
-use Rattle.code.specs.Emit.{Fix, kind, patch, Goal, toLabel, toEntry, Fixup, St, fixed, put, run, start, lead, patched, patchAll, finish}
+use Rattle.code.specs.Items.{pick, Hole, fill, Place, label, literal, Item, ins, go, new, bind, dist, resolve, size, placeOf, binds}
+use Rattle.code.specs.Items.{index, add, poolOf, halves, padOf, baseOf, placesOf, listing, Once, Met, Below, Sound}
+use Rattle.code.specs.Emit.{kind, patch, Goal, toLabel, toEntry, Fixup, St, fixed, put, run, start, lead, patched, patchAll, finish}
 use Rattle.code.proofs.Field.{patch-word}
-
--- by whether two numbers are equal
-pub data Cases (a c : ℕ) : Bool → Type 0 where
-  same : a ≡ c → Cases a c true
-  other : a ≢ c → Cases a c false
-
-pub cases : (a c : ℕ) → Cases a c (eqb a c)
-cases a c = by (eqb a c) refl
-  where
-    by : (t : Bool) → eqb a c ≡ t → Cases a c t
-    by true e = same (eqb-true a c e)
-    by false e = other (eqb-false a c e)
 
 -- ---- what the items leave, by each part of the state
 unfoldable pub raw : List Item → List ℕ

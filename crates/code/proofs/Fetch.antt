@@ -1,30 +1,21 @@
--- What a machine over the words finds: at each position its line's instruction, in each field its distance, at a literal's place its value.
+-- What a machine over the words finds: at each position its line's instruction, at a literal's place its value.
 use mathlib.Core.Path.{_≡_, refl, sym, ap, ap₂, subst, _∙_}
 use mathlib.Core.Bool.{Bool, true, false}
-use mathlib.Core.List.{List, [], _∷_, _++_, map, append-nil}
-use Prim.Native.Nat.{ℕ, zero, suc, _+_, _-_, _*_, _/_, _%_, _^_, _<_, _≤_}
+use mathlib.Core.List.{List, [], _∷_, _++_, map}
+use Prim.Native.Nat.{ℕ, zero, suc, _+_, _-_, _*_, _/_, _%_, _^_, _<_}
 use native.Mathlib.Omega.{arith}
-use lib.Dec.{eqb, ltb}
-use lib.IntN.{ℤ, pos, negsuc}
-use lib.ListN.{length, getD, drop, length-map, length-append, List·getD-append}
+use lib.Dec.{eqb}
+use lib.IntN.{pos}
+use lib.ListN.{length, getD, drop, length-map, List·getD-append}
 use lib.Seq.{getD-append-add}
-use borrow.Author.Tests.{lt-ltb, le-ltb, eqb-true}
+use borrow.Author.Tests.{eqb-true}
 use Rattle.arm.specs.declared.Instr.{Instr}
 use Rattle.arm.specs.Instr.{encode, Carried}
 use Rattle.arm.specs.Decode.{decode, valid}
 use Rattle.arm.proofs.RoundTrip.{decode-encode}
-use Rattle.code.specs.Items.{pick, Hole, adr, ldr, twos, fill, Within, dist, index, add, halves, padOf, baseOf, Sound}
+use Rattle.code.specs.Items.{pick, adr, ldr, fill, dist, index, add, halves, padOf, baseOf, Sound}
 use Rattle.code.specs.Tree.{Line, plain, over, back, load, minus, instrs, poolIn, findIn, linesWords}
 use Rattle.code.proofs.Emit.{has, Kept, kept-new, kept-add}
-
--- ---- the number that a field of 2 * half values holds
-unfoldable pub signed : ℕ → ℕ → ℤ
-signed half v = pick (ltb v half) (pos v) (negsuc (2 * half - suc v))
-
-pub signed-twos : (half : ℕ) (z : ℤ) → Within half z → signed half (twos (2 * half) z) ≡ z
-unfolding signed
-signed-twos half (pos n) w = rw (lt-ltb n half w)
-signed-twos half (negsuc n) w = rw (le-ltb (2 * half - suc n) half (omega arith)) (ap negsuc (omega arith))
 
 -- ---- the instruction of a line at position p
 unfoldable pub instr : (ℕ → ℕ) → ℕ → Line → Instr

@@ -1,19 +1,16 @@
 -- An instruction with its distance is the one with distance 0 and the field added.
-use mathlib.Core.Path.{_≡_, refl, sym, ap, _∙_}
-use mathlib.Core.Bool.{Bool, true, false}
-use Prim.Native.Nat.{ℕ, zero, suc, _+_, _-_, _*_, _/_, _%_, _^_, _<_, _≤_}
+use mathlib.Core.Path.{_≡_, sym, ap, _∙_}
+use Prim.Native.Nat.{ℕ, _+_, _-_, _%_, _^_, _<_}
 use native.Mathlib.Omega.{arith}
-use lib.IntN.{ℤ, pos, negsuc, subℕ}
+use lib.IntN.{ℤ, pos}
 use mathlib.Core.List.{List}
 use native.Mathlib.Nat.{mod-eq-of-lt}
 use Rattle.arm.specs.Fields.{pack, Fits}
 use Rattle.arm.proofs.Pieces.{pack-lt}
-use Rattle.arm.specs.declared.Size.{Size}
-use Rattle.arm.specs.declared.Test.{Test}
 use Rattle.arm.specs.declared.Instr.{Instr}
 use Rattle.arm.specs.Instr.{encode, Carried, format, operands, class, Class, moveWide, addSubImm, addSubShifted, logicalShifted, logicalImm, bitfield, oneSource, twoSource, threeSource, condSelect, memoryImm, memoryReg, memoryPair, compareBranch, testBranch, condBranch, branch, branchReg, adr as adrClass, loadLiteral, nop, floatTwo, floatCompare, floatConvert}
-use Rattle.code.specs.Items.{Hole, b, bCond, cb, tb, adr, ldr, twos, bytes, fill, reachOf, Within}
-use Rattle.code.specs.Emit.{Fix, B26, B19, B14, Adr21, kind, patch}
+use Rattle.code.specs.Items.{Hole, b, bCond, cb, tb, adr, ldr, fill}
+use Rattle.code.specs.Emit.{kind, patch}
 
 pub patch-law : (h : Hole) (z : ℤ) → encode (fill h z) ≡ encode (fill h (pos 0)) + patch (kind h) z
 unfolding patch kind

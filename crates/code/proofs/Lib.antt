@@ -5,5 +5,5 @@ pub mod Machine
 pub mod Reach
 pub mod Order
 pub mod Fetch
-pub mod Lent
+pub mod Calls
 pub mod Walk

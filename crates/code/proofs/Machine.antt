@@ -1,16 +1,18 @@
 -- Lines do what their structured code does.
-use mathlib.Core.Path.{_≡_, refl, sym, ap, ap₂, subst, subst₂, _∙_}
+use mathlib.Core.Path.{_≡_, refl, sym, ap, subst, subst₂, _∙_}
 use mathlib.Core.Bool.{Bool, true, false}
 use mathlib.Core.List.{List, [], _∷_, _++_, map, append-assoc}
-use Prim.Native.Nat.{ℕ, zero, suc, _+_, _-_, _<_, _≤_}
+use Prim.Native.Nat.{ℕ, suc, _+_, _-_}
 use native.Mathlib.Omega.{arith}
 use native.Mathlib.Nat.{add-zero}
-use lib.ListN.{length, drop, length-append, length-map, length-drop}
-use lib.Seq.{drop-append-add, append-snoc}
+use lib.ListN.{length, drop}
+use lib.Seq.{drop-append-add}
 use Rattle.arm.specs.declared.Instr.{Instr}
-use Rattle.code.specs.Items.{pick, Hole}
-use Rattle.code.specs.Tree.{Depth, top, under, Var, inner, outer, Code, code, lit, to, exit, block, start, _then_, words, Line, plain, over, back, load, inside, lines}
-use Rattle.code.specs.Machine.{Machine, Eff, fall, stop, Res, next, stopped, stuck, goes, step, Reaches, stay, move, Ends, Out, fell, went, left, ended, andThen, caught, goOn, ofEff, straight, does, Follows}
+use Rattle.code.specs.Items.{pick}
+use Rattle.code.specs.Tree.{Depth, under, Var, inner, outer, Code, code, lit, to, exit, block, start, _then_, words, Line, plain}
+use Rattle.code.specs.Tree.{over, back, inside, lines}
+use Rattle.code.specs.Machine.{Machine, Eff, fall, stop, next, goes, step, Reaches, stay, move, Out, fell, went, left, ended}
+use Rattle.code.specs.Machine.{andThen, caught, goOn, ofEff, straight, does, Follows}
 use Rattle.code.proofs.Tree.{lines-length}
 
 module _ (M : Machine) where
@@ -89,38 +91,3 @@ module _ (M : Machine) where
       (λ v. omega arith) (λ v. ap (λ m. drop (m + d v) (ls ++ k)) (sym n) ∙ drop-append-add ls k (d v)) (omega arith) (ap (λ m. drop (m + x) (ls ++ k)) (sym n) ∙ drop-append-add ls k x)
       (does-ok c p (p + words c) (ls ++ k) (λ v. words b + d v) (words b + x) s refl)
       (λ s₁. does-ok b (p + words c) q k d x s₁ (e ∙ omega arith)))
-
-  -- ---- each step leaves fewer lines, so no run takes more steps than there are lines
-  Less : ℕ → Res (M .State) (M .Stop) → Type 0
-  Less n (next p ls s) = length ls < n
-  Less n (stopped r) = Unit {0}
-  Less n stuck = Unit {0}
-
-  less-over : (n p : ℕ) (ls : List Line) (s : M .State) (t : Bool) → Less (suc (length ls)) (pick t (next (suc p + n) (drop n ls) s) (next (suc p) ls s))
-  unfolding Less
-  less-over n p ls s true = rw (length-drop n ls) (omega arith)
-  less-over n p ls s false = omega arith
-
-  less-goes : (p : ℕ) (ls : List Line) (f : Eff (M .State) (M .Stop)) → Less (suc (length ls)) (goes M p ls f)
-  unfolding Less goes
-  less-goes p ls (fall s) = omega arith
-  less-goes p ls (stop r) = tt
-
-  less : (p : ℕ) (ls : List Line) (s : M .State) → Less (length ls) (step M p ls s)
-  unfolding Less step
-  less p [] s = tt
-  less p (plain i ∷ ls) s = less-goes p ls (M .exec i s)
-  less p (over h n ∷ ls) s = less-over n p ls s (M .taken h s)
-  less p (back rd n ∷ ls) s = omega arith
-  less p (load rt v ∷ ls) s = omega arith
-
-  pub steps : {p p₁ : ℕ} {ls ls₁ : List Line} {s s₁ : M .State} → Reaches M p ls s p₁ ls₁ s₁ → ℕ
-  steps stay = 0
-  steps (move h r) = suc (steps r)
-
-  pub few-steps : {p p₁ : ℕ} {ls ls₁ : List Line} {s s₁ : M .State} (r : Reaches M p ls s p₁ ls₁ s₁) → steps r + length ls₁ ≤ length ls
-  unfolding steps Less
-  few-steps stay = omega arith
-  few-steps {ls = ls} (move {p = p} {p₁ = q} {ls₁ = k} {s = s} {s₁ = t} h r) =
-      let l : length k < length ls = subst (Less (length ls)) h (less p ls s) in
-      omega (arith, few-steps r)

@@ -1,18 +1,17 @@
 -- The patches in one walk or in the Rust's two give the same words; each patch of the walk leaves the final word in its place; and the
 -- same in lent room.
-use mathlib.Core.Path.{_≡_, refl, sym, ap, ap₂, subst, _∙_}
+use mathlib.Core.Path.{_≡_, refl, sym, ap, _∙_}
 use mathlib.Core.Logic.{_≢_}
 use mathlib.Core.Bool.{Bool, true, false}
-use mathlib.Core.List.{List, [], _∷_, _++_, map, append-nil}
+use mathlib.Core.List.{List, [], _∷_, _++_}
 use Prim.Native.Nat.{ℕ, zero, suc, _+_, _-_, _%_, _^_, _<_, _≤_}
 use native.Mathlib.Omega.{arith}
-use native.Mathlib.Nat.{le-of-suc-le-suc}
 use lib.Dec.{ltb}
 use borrow.Author.Tests.{ltb-true, ltb-false}
 use lib.ListN.{length, getD, set, take, drop, length-append, length-set}
 use lib.Seq.{getD-set-same, getD-set-other, getD-take, set-comm, take-set-le, set-out, take-suc}
-use Rattle.code.specs.Items.{Hole, Place, label, literal, Item, ins, go, new, bind, dist, size, index, add, halves, padOf, Rise}
-use Rattle.code.specs.Emit.{Fix, kind, patch, Goal, toLabel, toEntry, Fixup, patchedWord, patched, patchAll, pooledWords, leads, fixesAt}
+use Rattle.code.specs.Items.{label, literal, Item, ins, go, new, bind, dist, size, add, halves, padOf, Rise}
+use Rattle.code.specs.Emit.{patch, Goal, toLabel, toEntry, Fixup, patchedWord, patched, patchAll, pooledWords, leads, fixesAt}
 use Rattle.code.specs.Emit.{pickGoal, entriesOf, branchesOf, lay, St, run, start, finish, finishInTwo}
 use Rattle.code.specs.Walk.{completedAt}
 use Rattle.code.proofs.Emit.{raw, raw-size, fixesOf, run-words, run-fixes}
@@ -25,6 +24,14 @@ rise-le p q (x ∷ xs) r = omega (arith, r .0, rise-le (suc x) q xs (r .1))
 pub rise-from : (p p′ q : ℕ) (xs : List ℕ) → p ≤ p′ → Rise p′ q xs → Rise p q xs
 rise-from p p′ q [] h r = omega arith
 rise-from p p′ q (x ∷ xs) h r = (omega (arith, r .0), r .1)
+
+pub rise-below : (p q q′ : ℕ) (xs : List ℕ) → q ≤ q′ → Rise p q xs → Rise p q′ xs
+rise-below p q q′ [] h r = omega arith
+rise-below p q q′ (x ∷ xs) h r = (r .0, rise-below (suc x) q q′ xs h (r .1))
+
+pub rise-append : (p q r : ℕ) (xs ys : List ℕ) → Rise p q xs → Rise q r ys → Rise p r (xs ++ ys)
+rise-append p q r [] ys h k = rise-from p q r ys h k
+rise-append p q r (x ∷ xs) ys h k = (h .0, rise-append (suc x) q r xs ys (h .1) k)
 
 -- the fix-ups' positions rise as the items are emitted
 rising : (p q : ℕ) (ps : List ℕ) (is : List Item) → p + size is ≤ q → Rise p q (fixesAt (fixesOf p ps is))

@@ -1,13 +1,13 @@
 -- Every distance reaches, where the block is short enough and each test of a bit is near its label.
-use mathlib.Core.Path.{_≡_, refl, sym, ap, ap₂, subst, _∙_}
+use mathlib.Core.Path.{_≡_, refl, sym, ap, subst, _∙_}
 use mathlib.Core.Bool.{Bool, true, false}
 use mathlib.Core.List.{List, [], _∷_, _++_, map}
-use Prim.Native.Nat.{ℕ, zero, suc, _+_, _-_, _*_, _/_, _%_, _^_, _<_, _≤_}
+use Prim.Native.Nat.{ℕ, zero, suc, _+_, _-_, _*_, _%_, _^_, _<_, _≤_}
 use native.Mathlib.Omega.{arith}
 use lib.Dec.{eqb}
-use lib.IntN.{ℤ, pos, negsuc, subℕ}
-use lib.ListN.{length, getD, replicate, length-replicate}
-use borrow.Author.Tests.{le-ltb, eq-eqb}
+use lib.IntN.{ℤ, pos, negsuc}
+use lib.ListN.{length}
+use borrow.Author.Tests.{le-ltb}
 use Rattle.arm.specs.declared.Size.{Size}
 use Rattle.arm.specs.declared.Size.the-variants.{W, X}
 use Rattle.arm.specs.declared.Test.{Test}
@@ -15,12 +15,16 @@ use Rattle.arm.specs.declared.Test.the-variants.{Nonzero as nonzero}
 use Rattle.arm.specs.declared.Instr.{Instr}
 use Rattle.arm.specs.Instr.{sf, testOp, encode, Carried}
 use Rattle.arm.specs.declared.Test.the-variants.{Zero as isZero}
-use Rattle.code.specs.Items.{pick, Hole, b, bCond, cb, tb, adr, ldr, twos, bytes, fill, reachOf, Fit, Within, Sound, Place, label, literal, Item, ins, go, new, bind, dist, size, placeOf, binds, index, add, poolOf, halves, padOf, baseOf, placesOf, Reach}
-use Rattle.code.specs.Tree.{Depth, top, under, Var, inner, outer, Code, code, lit, to, exit, block, start, _then_, words, inside, lines, minus, labels, after, items, nowhere, wholeItems, wholeLines, Line, plain, over, back, load, instrs, poolIn, findIn, linesWords, Near, TestNear, Tests, Fine}
+use Rattle.code.specs.Items.{pick, Hole, b, bCond, cb, tb, adr, ldr, twos, bytes, fill, reachOf, Fit, Within, Sound, Place, label}
+use Rattle.code.specs.Items.{literal, Item, ins, go, new, bind, dist, size, index, poolOf, halves, padOf, baseOf, placesOf, Reach}
+use Rattle.code.specs.Tree.{Depth, top, Var, Code, code, lit, to, exit, block, start, _then_, words, inside, lines, minus, labels}
+use Rattle.code.specs.Tree.{after, items, nowhere, wholeItems, wholeLines, Line, plain, back, instrs, poolIn, findIn, linesWords}
+use Rattle.code.specs.Tree.{Near, TestNear, Tests, Fine}
 use Rattle.code.specs.Emit.{run, finish}
 use Rattle.code.specs.Emit.{start as begin}
 use Rattle.code.proofs.Emit.{Placed}
-use Rattle.code.proofs.Tree.{ahead, behind, each, size-append, placed-split, items-size, instrs-append, lines-length, whole-placed, whole-size, whole-pool, whole-length, finish-lines}
+use Rattle.code.proofs.Tree.{ahead, behind, each, placed-split, items-size, instrs-append, lines-length, whole-placed, whole-size}
+use Rattle.code.proofs.Tree.{whole-length, finish-lines}
 
 -- ---- a distance that reaches is carried by its field
 sf-lt : (z : Size) → sf z < 2
@@ -136,6 +140,12 @@ near-places at c end pool t s far near h =
     reach-append at 0 (words c) (items c nowhere 0 1) (bind 0 ∷ map ins end) q
     (reaches at (words c + length end) far (λ v. omega (arith, near v)) c nowhere 0 1 0 nowhere 0 (near-all c nowhere 0 t (elim [ ]) (omega arith)) (omega arith) (r .0) (elim [ ]) (r .1 .0 ∙ omega arith))
     (reach-ins at (words c) end)
+
+-- two words a literal
+pub halves-length : (xs : List ℕ) → length (halves xs) ≡ 2 * length xs
+unfolding halves
+halves-length [] = refl
+halves-length (x ∷ xs) = omega (arith, halves-length xs)
 
 pub pad-le : (n : ℕ) (ps : List ℕ) → length (padOf n ps) ≤ 1
 unfolding padOf

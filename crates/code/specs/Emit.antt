@@ -1,17 +1,15 @@
 -- What the assembler does: words, a table of label positions, fix-ups, a pool, and the patches at the end.
-use mathlib.Core.Bool.{Bool, true, false}
 use mathlib.Core.List.{List, [], _∷_, _++_, map}
-use Prim.Native.Nat.{ℕ, zero, suc, _+_, _-_, _*_, _/_, _%_, _^_, _<_, _≤_}
-use lib.IntN.{ℤ, pos, negsuc}
+use Prim.Native.Nat.{ℕ, suc, _+_, _*_, _/_, _%_, _^_}
+use lib.IntN.{ℤ, pos}
 use lib.ListN.{length, getD, set}
-use Rattle.arm.specs.declared.Instr.{Instr}
 use Rattle.arm.specs.Instr.{encode}
-use Rattle.code.specs.Items.{Hole, b, bCond, cb, tb, adr, ldr, twos, bytes, fill, Place, label, literal, Item, ins, go, new, bind, dist, index, add, halves, padOf, baseOf}
+use Rattle.code.specs.declared.Fix.{Fix}
+use Rattle.code.specs.declared.Fix.the-variants.{B26, B19, B14, Adr21}
+use Rattle.code.specs.Items.{Hole, b, bCond, cb, tb, adr, ldr, twos, bytes, fill, label, literal, Item, ins, go, new, bind, dist}
+use Rattle.code.specs.Items.{index, add, halves, padOf, baseOf}
 
--- the fields of a distance, as the Rust names them (a literal's load has B19)
-pub data Fix : Type 0 where
-  B26 B19 B14 Adr21 : Fix
-
+-- the field of a distance (a literal's load has B19)
 unfoldable pub kind : Hole → Fix
 kind b = B26
 kind (bCond c) = B19

@@ -2,5 +2,5 @@ pub mod Items
 pub mod Emit
 pub mod Tree
 pub mod Machine
-pub mod Lent
+pub mod Calls
 pub mod Walk

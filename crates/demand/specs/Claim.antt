@@ -1,8 +1,8 @@
 -- Demand 3: "Run on the Arm model, the block leaves after executing no more instructions than it has words", and what then equals the card's end.
 use mathlib.Core.Path.{_≡_}
 use mathlib.Core.Logic.{_≢_, _⊎_}
+use mathlib.Core.Bool.{true}
 use mathlib.Core.Option.{some}
-use mathlib.Core.List.{List, [], _∷_}
 use Prim.Native.Nat.{ℕ, _+_, _-_, _*_, _/_, _%_, _^_, _≤_, _<_}
 use lib.ListN.{length, getD}
 use Rattle.arm.specs.declared.Size.the-variants.{W, X}
@@ -11,13 +11,13 @@ use Rattle.arm.specs.declared.Instr.the-variants.{BranchReg}
 use Rattle.block.specs.declared.Layout.{Layout}
 use Rattle.block.specs.declared.Block.{Block}
 use Rattle.machine.specs.State.{State, code, stack, processor, context, ram, xip, map, table, R}
-use Rattle.machine.specs.Memory.{readLE, bytesOf, baseOf}
+use Rattle.machine.specs.Memory.{readLE, bytesOf, baseOf, sizeOf}
 use Rattle.machine.specs.Execute.{Helpers}
-use Rattle.machine.specs.Machine.{Run, Status, running, atReturn, atJump, fetch, instruction, run}
+use Rattle.machine.specs.Machine.{Run, running, atReturn, atJump, fetch, instruction, run}
 use Rattle.card.specs.Card.{Card, reg}
 use Rattle.card.specs.Step.{Way, exits, chains, looksUp}
-use Rattle.card.specs.Run.{End}
 use Rattle.card.specs.Run.{left as leaves, run as runCard}
+use Rattle.lowering.specs.declared.Site.{Site}
 use Rattle.lowering.specs.Compile.{blockWords, sites}
 use Rattle.block.specs.Checked.{Checked}
 use Rattle.demand.specs.Outside.{allArm}
@@ -36,9 +36,18 @@ bodyAt s pc = readLE (bytesOf (s .mem) table) (entryAt pc + 8) 8
 abbrev pub slotOf : State → ℕ
 slotOf s = readLE (bytesOf (s .mem) context) 32 8
 
--- the address of a block's k-th chain site
+-- a block's k-th chain site, as it is listed
+abbrev pub listedSite : Block → (k : ℕ) → Site
+listedSite b k = getD (sites b) k (record { at = 0; target = 0 })
+
+-- its address
 abbrev pub siteAddress : Block → State → (k : ℕ) → ℕ
-siteAddress b s k = (baseOf (s .mem) code + 4 * getD (sites b) k (record { at = 0; target = 0 }) .at) % 2 ^ 64
+siteAddress b s k = (baseOf (s .mem) code + 4 * listedSite b k .at) % 2 ^ 64
+
+-- past the demand: it is one of the sites, and the target that is listed for it is the pc that the card leaves for
+pub record LeavesFor (b : Block) (k pc : ℕ) : Type 0 where
+  pub listed : k < length (sites b)
+  pub target : listedSite b k .target ≡ pc
 
 -- "the sixteen registers, stack pointer, return address and hold mark in the processor record, every byte of RAM .. The list of requests to the
 -- outside is equal too": of the card's end c and the machine's state e
@@ -49,6 +58,9 @@ pub record Equals (lay : Layout) (c : Card) (e : State) : Type 0 where
   pub hold : readLE (bytesOf (e .mem) processor) (lay .hold) 4 ≡ c .hold
   pub ram-is : bytesOf (e .mem) ram ≡ c .ram
   pub requests : e .requests ≡ allArm (c .requests)
+  -- past the demand: the code map and the break word are the card's too
+  pub map-is : bytesOf (e .mem) map ≡ c .map
+  pub brk-is : readLE (bytesOf (e .mem) context) 24 4 ≡ c .brk
 
 -- an offset of the processor record in none of its five places
 pub record Outside (lay : Layout) (o : ℕ) : Type 0 where
@@ -63,8 +75,12 @@ abbrev pub frameAt : Entry → State → ℕ
 frameAt first s = s .sp - 96 - baseOf (s .mem) stack
 frameAt body s = s .sp - baseOf (s .mem) stack
 
--- past the demand: nothing outside the named places was written
+-- past the demand: no region has moved or changed its length, and nothing was written outside the named places of processor record and
+-- context, the frame, RAM and the code map. Of context and stack this leans on document 01's helper call, which alters neither; the
+-- Rust's own helpers write other fields of the context too, and the stack below sp.
 pub record Untouched (lay : Layout) (entry : Entry) (s e : State) : Type 0 where
+  pub bases-are : (i : ℕ) → baseOf (e .mem) i ≡ baseOf (s .mem) i
+  pub sizes-are : (i : ℕ) → sizeOf (e .mem) i ≡ sizeOf (s .mem) i
   pub code-is : bytesOf (e .mem) code ≡ bytesOf (s .mem) code
   pub xip-is : bytesOf (e .mem) xip ≡ bytesOf (s .mem) xip
   pub table-is : bytesOf (e .mem) table ≡ bytesOf (s .mem) table
@@ -72,12 +88,16 @@ pub record Untouched (lay : Layout) (entry : Entry) (s e : State) : Type 0 where
   pub processor-is : (o : ℕ) → Outside lay o → getD (bytesOf (e .mem) processor) o 0 ≡ getD (bytesOf (s .mem) processor) o 0
   pub context-is : (o : ℕ) → (o < 24) ⊎ (28 ≤ o) → (o < 32) ⊎ (40 ≤ o) → getD (bytesOf (e .mem) context) o 0 ≡ getD (bytesOf (s .mem) context) o 0
 
+-- the eight bytes at a place of the stack
+abbrev pub stackWord : State → (place : ℕ) → ℕ
+stackWord s o = readLE (bytesOf (s .mem) stack) o 8
+
 -- the register that the frame holds at a place: the caller's, before the opening words
 abbrev pub saved : Entry → State → (register place : ℕ) → ℕ
 saved first s n o = R X s n
-saved body s n o = readLE (bytesOf (s .mem) stack) (frameAt body s + o) 8
+saved body s n o = stackWord s (frameAt body s + o)
 
--- past the demand: "sp, registers 19 to 29 and the return address are as at the start"
+-- past the demand: sp, registers 19 to 29 and the return address are as the caller left them
 pub record Restored (entry : Entry) (s e : State) : Type 0 where
   pub sp : e .sp ≡ (baseOf (s .mem) stack + frameAt entry s + 96) % 2 ^ 64
   pub x29 : R X e 29 ≡ saved entry s 29 0
@@ -104,6 +124,25 @@ pub record ByReturn (b : Block) (entry : Entry) (slot : ℕ) (c : Card) (s : Sta
   pub restored : Restored entry s (r .state)
   pub untouched : Untouched (b .layout) entry s (r .state)
 
+-- the limit, in the register of the start
+abbrev pub limitAt : Entry → State → ℕ
+limitAt first s = R W s 4
+limitAt body s = R W s 27
+
+-- past the demand: what the next body starts with, "with those registers set and the frame on the stack as the opening words store it".
+-- Register k of 19 to 28 stands at byte 8 * k - 136 of the frame.
+pub record Handed (b : Block) (entry : Entry) (s e : State) : Type 0 where
+  pub sp : e .sp ≡ baseOf (s .mem) stack + frameAt entry s
+  pub frame : (k : ℕ) → 19 ≤ k → k < 29 → stackWord e (frameAt entry s + (8 * k - 136)) ≡ saved entry s k (8 * k - 136)
+  pub frame-29 : stackWord e (frameAt entry s + 0) ≡ saved entry s 29 0
+  pub frame-30 : stackWord e (frameAt entry s + 8) ≡ saved entry s 30 8
+  pub x19 : R X e 19 ≡ baseOf (s .mem) processor
+  pub x20 : R X e 20 ≡ baseOf (s .mem) context
+  pub x21 : R X e 21 ≡ baseOf (s .mem) ram
+  pub x22 : R X e 22 ≡ baseOf (s .mem) xip
+  pub x25 : b .memory .map ≡ true → R X e 25 ≡ baseOf (s .mem) map
+  pub w27 : R W e 27 ≡ limitAt entry s
+
 -- "At a table jump they are registers 12 and 26, and the record's field keeps its old number."
 pub record ByTable (b : Block) (entry : Entry) (c : Card) (s : State) (r : Run) : Type 0 where
   pub status : r .status ≡ atJump
@@ -114,12 +153,13 @@ pub record ByTable (b : Block) (entry : Entry) (c : Card) (s : State) (r : Run) 
   pub slot-is : slotOf (r .state) ≡ slotOf s
   pub found : guestAt s (c .pc) ≡ c .pc
   pub to-body : r .state .pc ≡ bodyAt s (c .pc)
+  pub handed : Handed b entry s (r .state)
   pub untouched : Untouched (b .layout) entry s (r .state)
 
 -- "Leaving is the return, or a jump to a table body. .. Leaving by a chain site puts that site's address in the slot."
 abbrev pub Left : Block → Entry → Way → Card → State → Run → Type 0
 Left b entry exits c s r = ByReturn b entry (slotOf s) c s r
-Left b entry (chains k) c s r = ByReturn b entry (siteAddress b s k) c s r
+Left b entry (chains k) c s r = LeavesFor b k (c .pc) × ByReturn b entry (siteAddress b s k) c s r
 Left b entry looksUp c s r = ByTable b entry c s r ⊎ ((guestAt s (c .pc) ≢ c .pc) × ByReturn b entry (slotOf s) c s r)
 
 -- the next instruction is a call of a helper: BLR by a register that holds its address

@@ -1,3 +1,4 @@
 pub mod Outside
 pub mod Premises
 pub mod Claim
+pub mod Next

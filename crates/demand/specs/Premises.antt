@@ -1,7 +1,7 @@
 -- "Premises for a run", document 01: its sentences, in its order.
 use mathlib.Core.Path.{_≡_}
 use mathlib.Core.Logic.{_≢_, _⊎_}
-use mathlib.Core.Bool.{Bool, true, false}
+use mathlib.Core.Bool.{true}
 use mathlib.Core.List.{List, [], _∷_}
 use Prim.Native.Nat.{ℕ, _+_, _*_, _/_, _%_, _^_, _≤_, _<_}
 use lib.ListN.{length}
@@ -12,7 +12,7 @@ use Rattle.machine.specs.State.{State, Outcome, code, stack, processor, context
 use Rattle.machine.specs.Memory.{readLE, bytesOfWords, bytesOf, baseOf, sizeOf, Apart}
 use Rattle.machine.specs.Execute.{Helpers}
 use Rattle.card.specs.Card.{Card, reg}
-use Rattle.card.specs.Run.{End, stopped}
+use Rattle.card.specs.Run.{stopped}
 use Rattle.card.specs.Run.{run as runCard}
 use Rattle.lowering.specs.Compile.{blockWords, bodyOffset}
 use Rattle.demand.specs.Outside.{allCard}

@@ -5,7 +5,7 @@ use Prim.Native.Nat.{ℕ}
 use Rattle.arm.specs.declared.Instr.{Instr}
 use Rattle.code.specs.Items.{Hole, adr, ldr, Place, label, literal, Item, ins, go, new, bind, index}
 use Rattle.code.specs.Tree.{Depth, under, Var, Code, code, lit, to, exit, block, start, _then_, inside}
-use Rattle.code.specs.Lent.{calls, nextL, bumped}
+use Rattle.code.specs.Calls.{calls, nextL, bumped}
 use Rattle.asm.specs.State.{State, word, put, made, fixed, held, keepAt}
 use Rattle.asm.proofs.Laws.{keep-labels}
 use Rattle.emission.specs.Total.{putT, runT, emitted, afterT, startsT}
@@ -35,10 +35,6 @@ made-is (c then d) e x l s q = ap (λ (t : State). t .asm .labels) (runT-append 
 pub none : (s : State) → s ≡ emitted [] s
 unfolding emitted runT
 none s = refl
-
-pub one : (i : Instr) (s s₁ : State) → s₁ ≡ putT (ins i) s → s₁ ≡ emitted (i ∷ []) s
-unfolding emitted runT
-one i s s₁ p = p
 
 -- these and then those
 pub more : (is js : List Instr) (s s₁ s₂ : State) → s₁ ≡ emitted is s → s₂ ≡ emitted js s₁ → s₂ ≡ emitted (is ++ js) s

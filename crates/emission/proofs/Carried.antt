@@ -8,7 +8,7 @@ use Rattle.words.specs.Answers.{answer, wordOf}
 use Rattle.words.proofs.Answers.{carried-word}
 use Rattle.code.specs.Items.{Item, ins, go, new, bind, Sound, Place, label, literal}
 use Rattle.code.specs.Tree.{Depth, Var, Code, code, lit, to, exit, block, start, _then_, Fine, inside}
-use Rattle.code.specs.Lent.{calls, nextL, bumped}
+use Rattle.code.specs.Calls.{calls, nextL, bumped}
 use Rattle.asm.specs.State.{State, word, put, run}
 use Rattle.emission.specs.Total.{putT, runT}
 

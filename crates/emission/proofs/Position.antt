@@ -1,20 +1,16 @@
 -- The position behind emitted code, and its sites: those of the definition, while the count of words does not stop.
 use mathlib.Core.Path.{_≡_, refl, ap, ap₂, _∙_}
 use mathlib.Core.List.{List, [], _∷_, _++_}
-use Prim.Native.Nat.{ℕ, suc, _+_, _≤_, _<_}
+use Prim.Native.Nat.{ℕ, suc, _+_, _≤_}
 use native.Mathlib.Omega.{arith}
-use borrow.Author.Tests.{lt-ltb}
 use Rattle.code.specs.Items.{size, index, label, literal, Item, ins, go, new, bind}
 use Rattle.code.specs.Tree.{Depth, Var, Code, code, lit, to, exit, block, start, _then_, inside, words}
-use Rattle.code.specs.Lent.{bumped, calls}
+use Rattle.code.specs.Calls.{bumped, calls}
+use Rattle.code.proofs.Calls.{bump}
 use Rattle.lowering.specs.Compile.{starts}
 use Rattle.asm.specs.State.{State, word, put, made, fixed, held}
 use Rattle.asm.proofs.Laws.{keep-at, calls-size}
 use Rattle.emission.specs.Total.{putT, runT, afterT, startsT}
-
-bump : (n : ℕ) → n < 1048576 → bumped n ≡ suc n
-unfolding bumped
-bump n h = rw (lt-ltb n 1048576 h)
 
 at-run : (is : List Item) (s : State) → s .asm .at + size is ≤ 1048576 → runT is s .asm .at ≡ s .asm .at + size is
 unfolding runT putT put word fixed made size

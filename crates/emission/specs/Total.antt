@@ -10,7 +10,7 @@ use Rattle.lowering.specs.Cache.{FREE, offReg}
 use Rattle.code.specs.Items.{pick, Item, ins, go, new, bind, Place}
 use Rattle.words.specs.Answers.{answer, wordOf}
 use Rattle.code.specs.Tree.{Depth, Var, Code, code, lit, to, exit, block, start, _then_, inside}
-use Rattle.code.specs.Lent.{calls}
+use Rattle.code.specs.Calls.{calls}
 use Rattle.asm.specs.State.{State, word, put}
 
 unfoldable pub putT : Item → State → State

@@ -1,8 +1,8 @@
 // A line of the input and its answer.
 ghost use Prim.Native.Nat.{_≤_};
 ghost use lib.ListN.{length};
-use a64::Sequence;
 use calls::Numbers;
+use constants::Sequence;
 use libc::STDOUT_FILENO;
 use text::Held;
 use text::Number;

@@ -4,11 +4,11 @@
 -- Assumes nothing.
 use mathlib.Core.Path.{_≡_, refl}
 use mathlib.Core.List.{List, [], _∷_}
-use Prim.Native.Nat.{ℕ, zero, suc, _+_, _*_}
+use Prim.Native.Nat.{ℕ, _+_, _*_}
 use lib.ListN.{getD}
 use Rattle.arm.specs.Decode.{decode, find, sizeOf, addSubOf, flagsOf, shiftOf, moveOf, logicOf, secondOf, extractOf, oneOf, twoOf, threeOf, selectOf, accessOf, scaleOf, modeOf, pairOf, testOf, jumpOf, floatOf, convertOf}
 use Rattle.machine.specs.Bits.{SInt, SignExtend, CountLeadingZeroBits, AddWithCarry, ConditionHolds}
-use Rattle.machine.specs.State.{State, processor, context, ram}
+use Rattle.machine.specs.State.{processor, context, ram}
 use Rattle.machine.specs.Memory.{readLE, writeLE, within, locate, load, store, bytesOf, bytesOfWords}
 use Rattle.machine.specs.Execute.{execute}
 use Rattle.machine.specs.Encoders.{encoders, hasEncoder}
@@ -19,7 +19,8 @@ use Rattle.card.specs.Memory.{readLE as cardReadLE, writeLE as cardWriteLE, loa
 use Rattle.card.specs.Step.{chains, opStep}
 use Rattle.card.specs.Run.{left, opsFrom, run as runCard}
 use Rattle.demand.specs.Outside.{allArm}
-use Rattle.example.proofs.Start.{block, listing, after, flash, helpers, card, start}
+use Rattle.example.proofs.Common.{helpers, wordsAt}
+use Rattle.example.proofs.Start.{block, listing, after, flash, card, start}
 
 -- registers 0, 3, 4, 6 and 8 changed, RAM as the outside left it, six operations done and one request of the sixth
 abbrev pub end : Card
@@ -50,11 +51,6 @@ ran = run 198 helpers start
 pub returns : ran .status ≡ atReturn
 unfolding ran
 returns = refl
-
--- n words from a place on
-abbrev pub wordsAt : List ℕ → (place n : ℕ) → List ℕ
-wordsAt l o zero = []
-wordsAt l o (suc n) = readLE l o 4 ∷ wordsAt l (o + 4) n
 
 pub registers : wordsAt (bytesOf (ran .state .mem) processor) 0 16 ≡ end .regs
 unfolding ran readLE

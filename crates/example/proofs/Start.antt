@@ -1,18 +1,15 @@
--- A block of nine registers, and a start of the card and of the machine for it.
+-- A block of nine registers, and a start of the card and of the machine for it, at the first word.
 -- Assumes nothing.
 use mathlib.Core.Path.{_≡_, refl}
 use mathlib.Core.Bool.{true, false}
 use mathlib.Core.List.{List, [], _∷_, _++_}
-use Prim.Native.Nat.{ℕ, zero, suc, _*_}
+use Prim.Native.Nat.{ℕ, _*_}
 use lib.ListN.{replicate}
 use Rattle.block.specs.declared.Op.the-variants.{Add, Sub}
 use Rattle.block.specs.declared.Base.the-variants.{Reg}
 use Rattle.block.specs.declared.Width.the-variants.{Half as B16, Word as B32}
-use Rattle.block.specs.declared.Fast.the-variants.{Nop, MovI, Alu3, Ld, St}
+use Rattle.block.specs.declared.Fast.the-variants.{MovI, Alu3, Ld, St}
 use Rattle.block.specs.declared.BOp.{BOp}
-use Rattle.block.specs.declared.Layout.{Layout}
-use Rattle.block.specs.declared.Memory.{Memory}
-use Rattle.block.specs.declared.Addresses.{Addresses}
 use Rattle.block.specs.declared.Block.{Block}
 use Rattle.code.specs.Items.{index, add, halves, padOf, baseOf}
 use Rattle.code.specs.Tree.{words, lines, instrs, wholeLines, poolIn, findIn, linesWords}
@@ -22,35 +19,23 @@ use Rattle.lowering.specs.Steps.{lowered, opSteps, opsSteps, blockSteps}
 use Rattle.lowering.specs.Fragments.{addImm, brkFirst, even, loads, tryRegion, extended, oddTest, mapTest, stores, call, exitImm, chain, ind, hold, checkBrk, fork, limit, load, store, stepCode, stepCache, stepsCode, opening, closing}
 use Rattle.lowering.specs.Compile.{blockWords, blockLines, blockCode, sites, starts}
 use Rattle.machine.specs.State.{Region, Outcome, State}
-use Rattle.machine.specs.Memory.{bytesOfWords}
-use Rattle.machine.specs.Execute.{Helpers}
 use Rattle.card.specs.Card.{Card}
 use Rattle.demand.specs.Outside.{allCard}
-
-abbrev padded : ℕ → List BOp → List BOp
-padded zero os = []
-padded (suc k) [] = record { fast = Nop; len = 0; glue = false } ∷ padded k []
-padded (suc k) (o ∷ os) = o ∷ padded k os
+use Rattle.example.proofs.Common.{blockOf, memoryOf, startOf}
 
 -- registers 0 to 8 in eight slots: the first load gives up register 0, changed; a store into RAM; a halfword from outside, glued
+abbrev pub ops : List BOp
+ops =
+    record { fast = MovI 0 0x12345678; len = 4; glue = false }
+    ∷ record { fast = Alu3 3 1 2 Add; len = 2; glue = false }
+    ∷ record { fast = Alu3 6 4 5 Sub; len = 2; glue = false }
+    ∷ record { fast = Ld 8 (Reg 7) 4 B32 false; len = 2; glue = false }
+    ∷ record { fast = St 6 (Reg 3) 0 B32; len = 2; glue = false }
+    ∷ record { fast = Ld 4 (Reg 8) 6 B16 true; len = 4; glue = true }
+    ∷ []
+
 abbrev pub block : Block
-block =
-    record {
-      layout = record { regs = 0; sp = 64; rets = 68; pc = 72; hold = 76 };
-      memory = record { «ram_base» = 0x20000000; «ram_len» = 64; «xip_base» = 0x02000000; «xip_len» = 16; map = true };
-      addresses = record { «h_read» = 0x900000; «h_write» = 0xa00000; table = 0x800000 };
-      pc0 = 0x02000100;
-      ops =
-          padded 32
-          (record { fast = MovI 0 0x12345678; len = 4; glue = false }
-          ∷ record { fast = Alu3 3 1 2 Add; len = 2; glue = false }
-          ∷ record { fast = Alu3 6 4 5 Sub; len = 2; glue = false }
-          ∷ record { fast = Ld 8 (Reg 7) 4 B32 false; len = 2; glue = false }
-          ∷ record { fast = St 6 (Reg 3) 0 B32; len = 2; glue = false }
-          ∷ record { fast = Ld 4 (Reg 8) 6 B16 true; len = 4; glue = true }
-          ∷ []);
-      n = 6;
-    }
+block = blockOf true ops
 
 unfoldable pub listing : List ℕ
 listing =
@@ -99,9 +84,6 @@ outside =
     record { answer = 0x8001; brk = 0; ram = after; map = replicate 16 0; scratch = replicate 19 0xdead; link = 0xbeef; nzcv = record { n = true; z = false; c = true; v = false } }
     ∷ []
 
-abbrev pub helpers : Helpers
-helpers = record { h-read = 0x900000; h-write = 0xa00000 }
-
 -- ---- the card
 abbrev pub flash : List ℕ
 flash = replicate 16 0xee
@@ -122,26 +104,20 @@ card =
       outcomes = allCard outside;
     }
 
--- ---- the machine: region i from (i + 1) * 2^20 on
-abbrev pub region : ℕ → List ℕ → Region
-region b l = record { base = b; bytes = l }
+-- ---- the machine
+abbrev pub context : List ℕ
+context = replicate 40 0
+
+abbrev pub table : List ℕ
+table = replicate (16384 * 16) 0
 
 abbrev pub memory : List Region
-memory =
-    region 0x100000 (bytesOfWords listing) ∷ region 0x200000 (replicate 128 0)
-    ∷ region 0x300000 (bytesOfWords (card .regs ++ (card .sp ∷ card .rets ∷ card .pc ∷ card .hold ∷ []))) ∷ region 0x400000 (replicate 40 0)
-    ∷ region 0x500000 before ∷ region 0x600000 flash ∷ region 0x700000 (replicate 16 0) ∷ region 0x800000 (replicate (16384 * 16) 0) ∷ []
+memory = memoryOf card listing context flash table
+
+abbrev pub registers : List ℕ
+registers =
+    0x300000 ∷ 0x400000 ∷ 0x500000 ∷ 0x600000 ∷ 100 ∷ 0x700000 ∷ 6 ∷ 7 ∷ 8 ∷ 9 ∷ 10 ∷ 11 ∷ 12 ∷ 13 ∷ 14 ∷ 15 ∷ 16 ∷ 17 ∷ 18 ∷ 19 ∷ 20 ∷ 21
+    ∷ 22 ∷ 23 ∷ 24 ∷ 25 ∷ 26 ∷ 27 ∷ 28 ∷ 29 ∷ 0x1234 ∷ []
 
 abbrev pub start : State
-start =
-    record {
-      x = 0x300000 ∷ 0x400000 ∷ 0x500000 ∷ 0x600000 ∷ 100 ∷ 0x700000 ∷ 6 ∷ 7 ∷ 8 ∷ 9 ∷ 10 ∷ 11 ∷ 12 ∷ 13 ∷ 14 ∷ 15 ∷ 16 ∷ 17 ∷ 18 ∷ 19 ∷ 20 ∷ 21 ∷ 22 ∷ 23 ∷ 24
-          ∷ 25 ∷ 26 ∷ 27 ∷ 28 ∷ 29 ∷ 0x1234 ∷ [];
-      sp = 0x200080;
-      nzcv = record { n = false; z = false; c = false; v = false };
-      pc = 0x100000;
-      mem = memory;
-      outcomes = outside;
-      requests = [];
-      count = 0;
-    }
+start = startOf registers 0x200080 0x100000 memory outside

@@ -20,6 +20,7 @@ use Rattle.code.specs.Tree.{Line, plain, over, back, load, instrs, poolIn, find
 use Rattle.code.specs.Machine.{Eff, fall, stop, Res, stopped, stuck, goes}
 use Rattle.code.specs.Machine.{next as onward, step as lineStep}
 use Rattle.code.proofs.Emit.{has}
+use Rattle.code.proofs.Reach.{halves-length}
 use Rattle.code.proofs.Fetch.{instr, instrs-length, literal-words}
 use Rattle.code.proofs.Fetch.{fetch as decodes, loaded as pooled}
 use Rattle.machine.specs.State.{Region, State, code, withX}
@@ -99,11 +100,6 @@ index-lt v (x ∷ xs) h = go (eqb v x) (index-lt v xs) h
     go : (t : Bool) → (has v xs ≡ true → index v xs < length xs) → pick t true (has v xs) ≡ true → pick t 0 (suc (index v xs)) < suc (length xs)
     go true f k = omega arith
     go false f k = omega (arith, f k)
-
-halves-length : (ps : List ℕ) → length (halves ps) ≡ 2 * length ps
-unfolding halves
-halves-length [] = refl
-halves-length (v ∷ vs) = omega (arith, halves-length vs)
 
 -- a literal stands behind the code, and both of its words are there
 pub literal-in : (ls : List Line) (v : ℕ) → has v (poolIn [] ls) ≡ true → (length ls ≤ findIn ls v) × (suc (findIn ls v) < length (linesWords ls))

@@ -1,24 +1,27 @@
 -- From the common exit and the closing words to the claim's return, and from the jump to a table's body to the claim's jump.
---     Entered                     what the state at the body is, of the state at the start
+--     Entered, Loaded             what the state at the body is, of the state at the start; the registers that a block keeps, there
 --     by-return, by-table         the claim's ends
 --     left-return, left-table     the same by the way that the card leaves
 use mathlib.Core.Path.{_≡_, refl, sym, ap, _∙_}
+use mathlib.Core.Bool.{true}
 use mathlib.Core.Logic.{_≢_, _⊎_, inl, inr}
 use Prim.Native.Nat.{ℕ, _+_, _-_, _*_, _%_, _^_, _≤_, _<_}
 use native.Mathlib.Omega.{arith}
 use lib.ListN.{length, getD}
+use Rattle.arm.specs.declared.Size.the-variants.{W, X}
 use Rattle.block.specs.declared.Layout.{Layout}
 use Rattle.block.specs.declared.Block.{Block}
-use Rattle.machine.specs.State.{State, code, stack, processor, context, ram, xip, table}
-use Rattle.machine.specs.Memory.{readLE, bytesOf, baseOf}
+use Rattle.machine.specs.State.{State, R, code, stack, processor, context, ram, xip, map, table}
+use Rattle.machine.specs.Memory.{readLE, bytesOf, baseOf, sizeOf}
 use Rattle.machine.specs.Machine.{atReturn, atJump}
 use Rattle.machine.proofs.Regions.{Alike}
 use Rattle.card.specs.Card.{Card}
 use Rattle.card.specs.Step.{Way, exits, chains, looksUp}
 use Rattle.demand.specs.Premises.{Entry}
-use Rattle.demand.specs.Claim.{entryAt, guestAt, bodyAt, slotOf, Equals, frameAt, Untouched, saved, ByReturn, ByTable, siteAddress, Left}
+use Rattle.demand.specs.Claim.{entryAt, guestAt, bodyAt, slotOf, frameAt, stackWord, saved, limitAt, siteAddress}
+use Rattle.demand.specs.Claim.{Equals, Untouched, Handed, ByReturn, ByTable, LeavesFor, Left}
 use Rattle.relation.specs.Lines.{at}
-use Rattle.relation.specs.Relation.{Kept, Home, AtExit, AtBody, slotAfter}
+use Rattle.relation.specs.Relation.{cls, Kept, Home, AtExit, AtBody, slotAfter}
 use Rattle.exits.proofs.Closing.{word, frameWord, Returned}
 
 -- what the state s0 at the body is, of the state s at the start: all but the frame is as it was
@@ -34,6 +37,16 @@ pub record Entered (entry : Entry) (s s0 : State) : Type 0 where
   pub frame-29 : word s0 (frameAt entry s) 0 ≡ saved entry s 29 0
   pub frame-30 : word s0 (frameAt entry s) 8 ≡ saved entry s 30 8
 
+-- the registers that a block keeps are set
+pub record Loaded (b : Block) (limit : ℕ) (c : Card) (s s0 : State) : Type 0 where
+  pub x19 : R X s0 19 ≡ baseOf (s .mem) processor
+  pub x20 : R X s0 20 ≡ baseOf (s .mem) context
+  pub x21 : R X s0 21 ≡ baseOf (s .mem) ram
+  pub x22 : R X s0 22 ≡ baseOf (s .mem) xip
+  pub x25 : b .memory .map ≡ true → R X s0 25 ≡ baseOf (s .mem) map
+  pub w26 : R W s0 26 ≡ c .done
+  pub w27 : R W s0 27 ≡ limit
+
 -- the claim's equations speak of memory and requests alone
 equals-to : {lay : Layout} {c : Card} {t : State} → Equals lay c t → (e : State) → e .mem ≡ t .mem → e .requests ≡ t .requests → Equals lay c e
 equals-to {lay} w e m r = record {
@@ -43,10 +56,14 @@ equals-to {lay} w e m r = record {
   hold = ap (λ y. readLE (bytesOf y processor) (lay .hold) 4) m ∙ w .hold;
   ram-is = ap (λ y. bytesOf y ram) m ∙ w .ram-is;
   requests = r ∙ w .requests;
+  map-is = ap (λ y. bytesOf y map) m ∙ w .map-is;
+  brk-is = ap (λ y. readLE (bytesOf y context) 24 4) m ∙ w .brk-is;
 }
 
 untouched-to : {lay : Layout} {entry : Entry} {s t : State} → Untouched lay entry s t → (e : State) → e .mem ≡ t .mem → Untouched lay entry s e
 untouched-to v e m = record {
+  bases-are = λ i. ap (λ y. baseOf y i) m ∙ v .bases-are i;
+  sizes-are = λ i. ap (λ y. sizeOf y i) m ∙ v .sizes-are i;
   code-is = ap (λ y. bytesOf y code) m ∙ v .code-is;
   xip-is = ap (λ y. bytesOf y xip) m ∙ v .xip-is;
   table-is = ap (λ y. bytesOf y table) m ∙ v .table-is;
@@ -80,10 +97,14 @@ module _ {entry : Entry} {s s0 : State} (E : Entered entry s s0) where
       hold = w .fields .hold-is;
       ram-is = w .others .ram-is;
       requests = w .io .requests-are;
+      map-is = w .others .map-is;
+      brk-is = w .ctx .brk-is;
     }
 
     pub untouched-of : Untouched (b .layout) entry s t
     untouched-of = record {
+      bases-are = λ i. w .others .alike .base i ∙ E .alike .base i;
+      sizes-are = λ i. w .others .alike .size i ∙ E .alike .size i;
       code-is = w .others .code-is ∙ E .bytes-are code (omega arith);
       xip-is = w .others .xip-is ∙ E .bytes-are xip (omega arith);
       table-is = w .others .table-is ∙ E .bytes-are table (omega arith);
@@ -121,31 +142,59 @@ module _ {entry : Entry} {s s0 : State} (E : Entered entry s s0) where
   }
 
   -- "At a table jump"
-  pub by-table : {b : Block} {c : Card} {to : ℕ} {t : State} (n : ℕ) → AtBody b s0 c to t → ByTable b entry c s (record { status = atJump; state = at to n t })
-  by-table {b} {c} {to} {t} n x = record {
-    status = refl;
-    equals = equals-to (equals-of (x .kept) (x .home)) (at to n t) refl refl;
-    pc = x .pc-is;
-    done = x .done-is;
-    old-pc = x .kept .fields .pc-is ∙ ap (λ l. readLE l (b .layout .pc) 4) (E .bytes-are processor (omega arith));
-    slot-is = x .kept .ctx .slot-is ∙ slot-entered;
-    found = sym (guest-entered (c .pc)) ∙ x .found;
-    to-body = x .to-is ∙ body-entered (c .pc);
-    untouched = untouched-to (untouched-of (x .kept) (x .home)) (at to n t) refl;
-  }
+  module _ {b : Block} {limit : ℕ} {c₀ : Card} (L : Loaded b limit c₀ s s0) (G : limitAt entry s ≡ limit) where
+    keeps-x : {c : Card} {pc slot : ℕ} {t : State} → Kept b s0 c pc slot t → (k : ℕ) → cls k ≡ 2 → R X t k ≡ R X s0 k
+    keeps-x w k e = ap (λ y. y % 2 ^ 64) (w .fixed .keeps k e)
+
+    frame-kept : {c : Card} {pc slot : ℕ} {t : State} → Kept b s0 c pc slot t
+        → (o : ℕ) → stackWord t (frameAt entry s + o) ≡ word s0 (frameAt entry s) o
+    frame-kept w o = ap (λ y. readLE y (frameAt entry s + o) 8) (w .others .stack-is)
+
+    handed-of : {c : Card} {to : ℕ} {t : State} (n : ℕ) → AtBody b s0 c to t → Handed b entry s (at to n t)
+    unfolding cls
+    handed-of n x = record {
+      sp = x .kept .fixed .sp ∙ E .sp-is;
+      frame = λ k l m. frame-kept (x .kept) (8 * k - 136) ∙ E .frame k l m;
+      frame-29 = frame-kept (x .kept) 0 ∙ E .frame-29;
+      frame-30 = frame-kept (x .kept) 8 ∙ E .frame-30;
+      x19 = keeps-x (x .kept) 19 refl ∙ L .x19;
+      x20 = keeps-x (x .kept) 20 refl ∙ L .x20;
+      x21 = keeps-x (x .kept) 21 refl ∙ L .x21;
+      x22 = keeps-x (x .kept) 22 refl ∙ L .x22;
+      x25 = λ e. keeps-x (x .kept) 25 refl ∙ L .x25 e;
+      w27 = ap (λ y. y % 2 ^ 32) (x .kept .fixed .keeps 27 refl) ∙ L .w27 ∙ sym G;
+    }
+
+    pub by-table : {c : Card} {to : ℕ} {t : State} (n : ℕ) → AtBody b s0 c to t
+        → ByTable b entry c s (record { status = atJump; state = at to n t })
+    by-table {c} {to} {t} n x = record {
+      status = refl;
+      equals = equals-to (equals-of (x .kept) (x .home)) (at to n t) refl refl;
+      pc = x .pc-is;
+      done = x .done-is;
+      old-pc = x .kept .fields .pc-is ∙ ap (λ l. readLE l (b .layout .pc) 4) (E .bytes-are processor (omega arith));
+      slot-is = x .kept .ctx .slot-is ∙ slot-entered;
+      found = sym (guest-entered (c .pc)) ∙ x .found;
+      to-body = x .to-is ∙ body-entered (c .pc);
+      handed = handed-of n x;
+      untouched = untouched-to (untouched-of (x .kept) (x .home)) (at to n t) refl;
+    }
 
   -- ---- both, as the claim says them
-  -- the site's address, where a chain is left by
-  abbrev pub SiteIs : Block → Way → (site : ℕ) → Type 0
-  SiteIs b exits site = Unit {0}
-  SiteIs b (chains k) site = site ≡ siteAddress b s k
-  SiteIs b looksUp site = Unit {0}
+  -- the site's address and target, where a chain is left by
+  abbrev pub SiteIs : Block → Way → (pc site : ℕ) → Type 0
+  SiteIs b exits pc site = Unit {0}
+  SiteIs b (chains k) pc site = LeavesFor b k pc × (site ≡ siteAddress b s k)
+  SiteIs b looksUp pc site = Unit {0}
 
-  pub left-return : {b : Block} (w : Way) {c : Card} {site to : ℕ} {t e : State} (n : ℕ) → SiteIs b w site → AtExit b s0 w c site t → Returned s0 t to e
+  pub left-return : {b : Block} (w : Way) {c : Card} {site to : ℕ} {t e : State} (n : ℕ)
+      → SiteIs b w (c .pc) site → AtExit b s0 w c site t → Returned s0 t to e
       → Left b entry w c s (record { status = atReturn; state = at to n e })
   left-return {b} exits n k x u = by-return (slotOf s) n x u slot-entered
-  left-return {b} (chains j) n k x u = by-return (siteAddress b s j) n x u k
+  left-return {b} (chains j) n k x u = (k .0, by-return (siteAddress b s j) n x u (k .1))
   left-return {b} looksUp {c = c} n k x u = inr (λ e. x .missed (guest-entered (c .pc) ∙ e), by-return (slotOf s) n x u slot-entered)
 
-  pub left-table : {b : Block} {c : Card} {to : ℕ} {t : State} (n : ℕ) → AtBody b s0 c to t → Left b entry looksUp c s (record { status = atJump; state = at to n t })
-  left-table n x = inl (by-table n x)
+  pub left-table : {b : Block} {limit : ℕ} {c₀ : Card} → Loaded b limit c₀ s s0 → limitAt entry s ≡ limit
+      → {c : Card} {to : ℕ} {t : State} (n : ℕ) → AtBody b s0 c to t
+      → Left b entry looksUp c s (record { status = atJump; state = at to n t })
+  left-table L G n x = inl (by-table L G n x)

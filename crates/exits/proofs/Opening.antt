@@ -40,8 +40,7 @@ use Rattle.registers.proofs.Basics.{test, upd-same, upd-other, other}
 use Rattle.registers.proofs.Frags.{frag-map, frag-one, frag-cons}
 use Rattle.registers.proofs.Constants.{exec-movz32}
 use Rattle.exits.proofs.Closing.{word}
-use Rattle.exits.proofs.Ends.{Entered}
-use Rattle.exits.proofs.Start.{Loaded}
+use Rattle.exits.proofs.Ends.{Entered, Loaded}
 
 -- the stack's bytes with two registers at a place
 abbrev two : List ℕ → (o u v : ℕ) → List ℕ

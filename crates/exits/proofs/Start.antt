@@ -1,5 +1,4 @@
 -- The premises for a run, at the body: what does not change, and the relation with nothing in the slots.
---     Loaded                      the registers that a block keeps, at the body
 --     body-ok, start-sim          the premises at the body, and the relation there
 --     entered-body, loaded-body   where the run starts at the body
 use mathlib.Core.Path.{_≡_, refl, sym, ap, _∙_, subst}
@@ -11,38 +10,23 @@ use native.Mathlib.Omega.{arith}
 use borrow.Author.Tests.{ltb-true, ltb-false}
 use lib.Dec.{ltb}
 use lib.ListN.{List·getD-eq-default}
-use Rattle.arm.specs.declared.Size.the-variants.{W, X}
 use Rattle.block.specs.declared.Block.{Block}
-use Rattle.machine.specs.State.{State, Outcome, R, stack, processor, context, ram, xip, map, table}
-use Rattle.machine.specs.Memory.{readLE, bytesOf, baseOf, sizeOf}
+use Rattle.machine.specs.State.{State, Outcome, stack, processor, context, ram, xip, map, table}
+use Rattle.machine.specs.Memory.{readLE, bytesOf, baseOf}
 use Rattle.machine.specs.Execute.{Helpers}
 use Rattle.machine.proofs.Bytes.{read-lt}
 use Rattle.machine.proofs.Regions.{alike-refl, apart-alike}
 use Rattle.card.specs.Card.{Card, reg}
 use Rattle.lowering.specs.Cache.{emptyCache}
 use Rattle.demand.specs.Outside.{allArm, allCard}
-use Rattle.demand.specs.Premises.{Entry, first, body, Premises, AllFit}
-use Rattle.demand.specs.Claim.{frameAt, slotOf}
+use Rattle.demand.specs.Premises.{Entry, body, Premises, AllFit}
+use Rattle.demand.specs.Claim.{slotOf}
+use Rattle.demand.proofs.Next.{frame-inside}
 use Rattle.relation.specs.Lines.{bare}
 use Rattle.relation.specs.Abs.{nothing}
 use Rattle.relation.specs.Relation.{pcOf, Body, Goods, Small, Kept, Sim, guestOf, dirtyOf}
 use Rattle.registers.proofs.Basics.{test, absurd-bool, below8}
-use Rattle.exits.proofs.Ends.{Entered}
-
--- the registers that a block keeps are set
-pub record Loaded (b : Block) (limit : ℕ) (c : Card) (s s0 : State) : Type 0 where
-  pub x19 : R X s0 19 ≡ baseOf (s .mem) processor
-  pub x20 : R X s0 20 ≡ baseOf (s .mem) context
-  pub x21 : R X s0 21 ≡ baseOf (s .mem) ram
-  pub x22 : R X s0 22 ≡ baseOf (s .mem) xip
-  pub x25 : b .memory .map ≡ true → R X s0 25 ≡ baseOf (s .mem) map
-  pub w26 : R W s0 26 ≡ c .done
-  pub w27 : R W s0 27 ≡ limit
-
--- the frame is in the stack
-frame-inside : {b : Block} {h : Helpers} (entry : Entry) {limit : ℕ} {c : Card} {s : State} → Premises b h entry limit c s → frameAt entry s + 96 ≤ sizeOf (s .mem) stack
-frame-inside first P = omega (arith, P .starts .room, P .starts .inside)
-frame-inside body P = omega (arith, P .starts .room, P .starts .inside)
+use Rattle.exits.proofs.Ends.{Entered, Loaded}
 
 module _ {b : Block} {h : Helpers} {entry : Entry} {limit : ℕ} {c : Card} {s s0 : State} (P : Premises b h entry limit c s) (E : Entered entry s s0) (L : Loaded b limit c s s0) where
   at-base : (k : ℕ) {x : ℕ} → x ≡ baseOf (s .mem) k → x ≡ baseOf (s0 .mem) k
@@ -180,6 +164,3 @@ module _ {b : Block} {h : Helpers} {limit : ℕ} {c : Card} {s : State} (P : Pre
     w26 = P .starts .w26;
     w27 = P .starts .w27;
   }
-
-  pub body-of : Body b h (bare s)
-  body-of = body-ok P entered-body loaded-body

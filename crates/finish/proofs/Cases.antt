@@ -11,8 +11,13 @@ use lib.IntN.{ℤ, pos, negsuc}
 use lib.ListN.{length, getD, set, replicate, drop, drop-of-length-le, length-set}
 use borrow.Author.Tests.{lt-ltb, le-ltb, ltb-true, ltb-false, ne-eqb}
 use Rattle.code.specs.Items.{dist, bytes, halves, padOf, baseOf}
-use Rattle.asm.specs.State.{labelRoom, fixupRoom, literalsAt, fixupsAt, State, atMost, kept, held, literalsFrom}
-use Rattle.finish.specs.Finish.{fieldOf, patchIn, fixOf, leadIn, patchedWith, patchedAt, patchedTo, write, zeros, written, needed, beforeWalk, walkedTo, finished, finishedWords}
+use Rattle.code.specs.declared.Fix.{Fix}
+use Rattle.code.specs.declared.Fix.the-variants.{B26, B19, B14, Adr21}
+use Rattle.code.proofs.Reach.{halves-length}
+use Rattle.asm.specs.declared.Reference.{Reference}
+use Rattle.asm.specs.State.{fixupRoom, literalsAt, fixupsAt, refOf, State, atMost, kept, held, literalsFrom}
+use Rattle.finish.specs.Finish.{fieldOf, patchIn, fieldIn, leadIn, patchedWith, patchedCell, patchedAt, patchedTo}
+use Rattle.finish.specs.Finish.{write, zeros, written, needed, beforeWalk, walkedTo, finished, finishedWords}
 use Rattle.finish.specs.declared.Finished.the-variants.{Words, Short}
 
 -- ---- the field of each kind
@@ -23,42 +28,31 @@ bytes-dist t h = by (ltb t h) refl
     by true e = let l : t < h = ltb-true t h e in rw (e, lt-ltb (4 * t) (4 * h) (omega arith)) (ap negsuc (omega arith))
     by false e = let l : h ≤ t = ltb-false t h e in rw (e, le-ltb (4 * t) (4 * h) (omega arith)) (ap pos (omega arith))
 
-module _ (k t h r : ℕ) (z : ℤ) (d : z ≡ dist t h) where
-  pub patch-b26 : k ≡ 0 → r ≡ fieldOf 33554432 z → r ≡ patchIn (fixOf k) (dist t h)
-  unfolding fixOf patchIn
+module _ (f : Fix) (t h r : ℕ) (z : ℤ) (d : z ≡ dist t h) where
+  pub patch-b26 : f ≡ B26 → r ≡ fieldOf 33554432 z → r ≡ patchIn f (dist t h)
+  unfolding patchIn
   patch-b26 e q = rw e (q ∙ ap (fieldOf 33554432) d)
 
-  pub patch-b14 : k ≡ 2 → r ≡ fieldOf 8192 z → r * 32 ≡ patchIn (fixOf k) (dist t h)
-  unfolding fixOf patchIn
+  pub patch-b19 : f ≡ B19 → r ≡ fieldOf 262144 z → r * 32 ≡ patchIn f (dist t h)
+  unfolding patchIn
+  patch-b19 e q = rw e (ap (λ n. n * 32) (q ∙ ap (fieldOf 262144) d))
+
+  pub patch-b14 : f ≡ B14 → r ≡ fieldOf 8192 z → r * 32 ≡ patchIn f (dist t h)
+  unfolding patchIn
   patch-b14 e q = rw e (ap (λ n. n * 32) (q ∙ ap (fieldOf 8192) d))
 
-  pub patch-b19 : k ≢ 0 → k ≢ 2 → k ≢ 3 → r ≡ fieldOf 262144 z → r * 32 ≡ patchIn (fixOf k) (dist t h)
-  unfolding fixOf patchIn
-  patch-b19 a c e q = rw (ne-eqb k 0 a, ne-eqb k 2 c, ne-eqb k 3 e) (ap (λ n. n * 32) (q ∙ ap (fieldOf 262144) d))
-
-pub patch-adr21 : (k t h r : ℕ) (z : ℤ) → z ≡ dist (4 * t) (4 * h) → k ≡ 3 → r ≡ fieldOf 1048576 z → r % 4 * 536870912 + r / 4 * 32 ≡ patchIn (fixOf k) (dist t h)
-unfolding fixOf patchIn
-patch-adr21 k t h r z d e q = rw e (ap (λ n. n % 4 * 536870912 + n / 4 * 32) (q ∙ ap (fieldOf 1048576) (d ∙ bytes-dist t h)))
-
--- ---- where a fix-up leads
-module _ (t : List ℕ) (base k g : ℕ) where
-  pub lead-literal : k ≡ 4 → base + 2 * g ≡ leadIn t base k g
-  unfolding leadIn
-  lead-literal e = rw e
-
-  pub lead-label : k ≢ 4 → g < labelRoom → getD t g 0 % 4294967296 ≡ leadIn t base k g
-  unfolding leadIn
-  lead-label n h = rw (ne-eqb k 4 n, lt-ltb g labelRoom h)
-
-  pub lead-none : k ≢ 4 → labelRoom ≤ g → 0 ≡ leadIn t base k g
-  unfolding leadIn
-  lead-none n h = rw (ne-eqb k 4 n, le-ltb g labelRoom h)
+pub patch-adr21 : (f : Fix) (t h r : ℕ) (z : ℤ) → z ≡ dist (4 * t) (4 * h) → f ≡ Adr21 → r ≡ fieldOf 1048576 z
+    → r % 4 * 536870912 + r / 4 * 32 ≡ patchIn f (dist t h)
+unfolding patchIn
+patch-adr21 f t h r z d e q = rw e (ap (λ n. n % 4 * 536870912 + n / 4 * 32) (q ∙ ap (fieldOf 1048576) (d ∙ bytes-dist t h)))
 
 -- ---- one fix-up from its number, and one more of them
-pub patched-is : (t ws ws′ : List ℕ) (base n at low low′ there f : ℕ) → at ≡ getD t (fixupsAt + n) 0 / 2 ^ 32 → low ≡ getD t (fixupsAt + n) 0 % 2 ^ 32 → low′ ≡ getD t (fixupsAt + n) 0 % 2 ^ 32
-    → there ≡ leadIn t base (low′ % 8) (low / 8) → f ≡ patchIn (fixOf (low′ % 8)) (dist there at) → ws′ ≡ set ws at ((getD ws at 0 + f) % 2 ^ 32) → ws′ ≡ patchedAt t base n ws
-unfolding patchedAt patchedWith
-patched-is t ws ws′ base n at low low′ there f a l l′ p q r = rw (← a, ← l) (r ∙ ap (λ x. set ws at ((getD ws at 0 + x) % 2 ^ 32)) (q ∙ ap₂ (λ (x k : ℕ). patchIn (fixOf (k % 8)) (dist x at)) (p ∙ ap (λ x. leadIn t base (x % 8) (low / 8)) (l′ ∙ sym l)) (l′ ∙ sym l)))
+pub patched-is : (t ws ws′ : List ℕ) (base n at low there f : ℕ) (r : Reference) (k : Fix)
+    → at ≡ getD t (fixupsAt + n) 0 / 2 ^ 32 → low ≡ getD t (fixupsAt + n) 0 % 2 ^ 32 → r ≡ refOf low → there ≡ leadIn t base r
+    → k ≡ fieldIn r → f ≡ patchIn k (dist there at) → ws′ ≡ set ws at ((getD ws at 0 + f) % 2 ^ 32) → ws′ ≡ patchedAt t base n ws
+unfolding patchedAt patchedCell patchedWith
+patched-is t ws ws′ base n at low there f r k a l e p j q s =
+    rw (← a, ← l, ← e, ← p, ← j, ← q) s
 
 pub patched-more : (t ws ws′ ws″ : List ℕ) (base n : ℕ) → ws′ ≡ patchedTo t base n ws → ws″ ≡ patchedAt t base n ws′ → ws″ ≡ patchedTo t base (n + 1) ws
 unfolding patchedTo
@@ -102,11 +96,6 @@ halves-append : (xs ys : List ℕ) → halves (xs ++ ys) ≡ halves xs ++ halves
 unfolding halves
 halves-append [] ys = refl
 halves-append (x ∷ xs) ys = ap {B = List ℕ} (λ r. x % 2 ^ 32 ∷ x / 2 ^ 32 ∷ r) (halves-append xs ys)
-
-pub halves-length : (xs : List ℕ) → length (halves xs) ≡ 2 * length xs
-unfolding halves
-halves-length [] = refl
-halves-length (x ∷ xs) = omega (arith, halves-length xs)
 
 pub literals-length : (i k : ℕ) (t : List ℕ) → length (literalsFrom i k t) ≡ k
 unfolding literalsFrom

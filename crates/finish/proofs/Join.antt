@@ -19,12 +19,11 @@ use Rattle.code.proofs.Emit.{raw-size, tableOf, fixesOf, run-words, run-labels,
 use Rattle.code.proofs.Tree.{whole-once, whole-met, whole-below, whole-size, whole-pool, whole-length}
 use Rattle.code.proofs.Order.{lay-put, lay-length}
 use Rattle.code.proofs.Walk.{walked-all, walked-length, pooled-is, fixes-are, walked-lent}
-use Rattle.code.proofs.Reach.{whole-reach, emitted}
+use Rattle.code.proofs.Reach.{halves-length, whole-reach, emitted}
 use Rattle.asm.specs.State.{labelRoom, fixupRoom, tableRoom, State, state, begin, atMost, held, run}
 use Rattle.finish.specs.Finish.{patchedTo, write, zeros, written, needed, beforeWalk, walkedTo, finished, finishedWords}
 use Rattle.finish.specs.Whole.{laid, told, countOf, Held}
 use Rattle.finish.specs.declared.Finished.the-variants.{Words, Short}
-use Rattle.finish.proofs.Cases.{halves-length}
 use Rattle.finish.proofs.Track.{Tracks, kept-is, held-is, news, goes, Roomy, tracks-run}
 use Rattle.finish.proofs.Walk.{Loads, Goods, goods, walk}
 
@@ -187,10 +186,6 @@ module _ (tab : List ℕ) (full : length tab ≡ tableRoom) (c : Code top) (end 
   words-length : length (p .words) ≡ size is
   unfolding startE
   words-length = ap length (run-words is (startE table)) ∙ raw-size is
-
-  pool-is : p .pool ≡ poolIn [] (wholeLines c end)
-  unfolding startE
-  pool-is = run-pool is (startE table) ∙ whole-pool c end
 
   roomy : Roomy is (startE table)
   unfolding startE

@@ -13,15 +13,26 @@ use borrow.Author.Tests.{lt-ltb, le-ltb, ltb-true, ltb-false, eqb-true, eqb-fals
 use Rattle.arm.specs.declared.Instr.{Instr}
 use Rattle.arm.specs.Instr.{encode}
 use Rattle.code.specs.Items.{pick, Hole, fill, label, literal, Item, ins, go, new, bind, size, index, add, poolOf, Below}
-use Rattle.code.specs.Emit.{B26, kind, Goal, toLabel, toEntry, Fixup, St, lay}
+use Rattle.code.specs.declared.Fix.{Fix}
+use Rattle.code.specs.declared.Fix.the-variants.{B26}
+use Rattle.code.specs.Emit.{kind, Goal, toLabel, toEntry, Fixup, St, lay}
 use Rattle.code.specs.Emit.{fixed as fixedE, put as putE, run as runE}
-use Rattle.code.specs.Lent.{bumped, goalNo, kindNo}
+use Rattle.code.specs.Calls.{bumped}
+use Rattle.code.proofs.Calls.{bump}
 use Rattle.code.proofs.Order.{lay-put}
-use Rattle.asm.specs.State.{labelRoom, literalRoom, fixupRoom, literalsAt, fixupsAt, tableRoom, State, state, counts, atMost, labelled, packed, fixup, literalsFrom, word, made, fixed, kept, held, keepAt, put, run}
+use Rattle.asm.specs.declared.Reference.{Reference}
+use Rattle.asm.specs.declared.Reference.the-variants.{ToLabel, ToPool}
+use Rattle.asm.specs.State.{labelRoom, literalRoom, fixupRoom, literalsAt, fixupsAt, tableRoom}
+use Rattle.asm.specs.State.{State, state, counts, atMost, labelled, labelOf, packed, fixup, literalsFrom, word, made, fixed, kept, held}
+use Rattle.asm.specs.State.{keepAt, put, run}
 
--- a fix-up's number in the table
+-- a fix-up's reference as the code has it, and its number in the table
+abbrev pub referenceTo : Goal → Fix → Reference
+referenceTo (toLabel l) f = ToLabel (labelOf l) f
+referenceTo (toEntry i) f = ToPool i
+
 unfoldable pub number : Fixup → ℕ
-number f = packed (f .at) (goalNo (f .goal)) (kindNo (f .goal) (f .field))
+number f = packed (f .at) (referenceTo (f .goal) (f .field))
 
 abbrev pub nobody : Fixup
 nobody = record { at = 0; goal = toLabel 0; field = B26 }
@@ -40,10 +51,6 @@ pub record Tracks (lent : List ℕ) (s : State) (p : St) : Type 0 where
   pub fixes : (n : ℕ) → n < length (p .fixes) → getD (s .tab) (fixupsAt + n) 0 ≡ number (getD (p .fixes) n nobody)
 
 -- ---- lists and counts
-bump : (n : ℕ) → n < 1048576 → bumped n ≡ suc n
-unfolding bumped
-bump n h = rw (lt-ltb n 1048576 h)
-
 snoc : {A : Type 0} (xs : List A) (a : A) → length (xs ++ (a ∷ [])) ≡ suc (length xs)
 snoc xs a = length-append xs (a ∷ []) ∙ omega arith
 
@@ -125,12 +132,12 @@ module _ (lent : List ℕ) where
 
   -- a word with its fix-up
   tracks-fixed : (h : Hole) (g : Goal) (s : State) (p : St) → Tracks lent s p → length (p .words) < 1048576 → length (p .fixes) < fixupRoom
-      → Tracks lent (fixed (kindNo g (kind h)) (goalNo g) (encode (fill h (pos 0))) s) (fixedE h g (p .pool) p)
+      → Tracks lent (fixed (referenceTo g (kind h)) (encode (fill h (pos 0))) s) (fixedE h g (p .pool) p)
   unfolding fixed fixedE fixup number
   tracks-fixed h g s p t a c =
       let w : ℕ = encode (fill h (pos 0)) in
       let f : Fixup = record { at = length (p .words); goal = g; field = kind h } in
-      let v : ℕ = packed (s .asm .at) (goalNo g) (kindNo g (kind h)) in
+      let v : ℕ = packed (s .asm .at) (referenceTo g (kind h)) in
       let n : ℕ = s .asm .fixups in
       let e : n ≡ length (p .fixes) = t .fixups in
       rw (lt-ltb n fixupRoom (omega arith)) (record {
@@ -146,7 +153,9 @@ module _ (lent : List ℕ) where
         pool = λ i m. other (s .tab) (fixupsAt + n) (literalsAt + i) v (omega (arith, t .few)) ∙ t .pool i m;
         fixes = snoc-at (λ k x. getD (set (s .tab) (fixupsAt + n) v) (fixupsAt + k) 0 ≡ number x) (p .fixes) f nobody
             (λ k m. other (s .tab) (fixupsAt + n) (fixupsAt + k) v (omega arith) ∙ t .fixes k m)
-            (ap (λ k. getD (set (s .tab) (fixupsAt + n) v) (fixupsAt + k) 0) (sym e) ∙ getD-set-same (s .tab) (fixupsAt + n) v 0 (omega (arith, t .table)) ∙ ap (λ k. packed k (goalNo g) (kindNo g (kind h))) (t .at));
+            (ap (λ k. getD (set (s .tab) (fixupsAt + n) v) (fixupsAt + k) 0) (sym e)
+            ∙ getD-set-same (s .tab) (fixupsAt + n) v 0 (omega (arith, t .table))
+            ∙ ap (λ k. packed k (referenceTo g (kind h))) (t .at));
       })
 
 -- ---- literals
@@ -265,7 +274,7 @@ pool-grows ps (new ∷ is) = pool-grows ps is
 pool-grows ps (bind l ∷ is) = pool-grows ps is
 
 pub tracks-run : (lent : List ℕ) (is : List Item) (s : State) (p : St) → Tracks lent s p → Roomy is p → Tracks lent (run is s) (runE is p)
-unfolding run runE put putE fixedE size news goes poolOf Below kindNo goalNo
+unfolding run runE put putE fixedE size news goes poolOf Below
 tracks-run lent [] s p t r = t
 tracks-run lent (ins i ∷ is) s p t r =
     tracks-run lent is (put (ins i) s) (putE (ins i) p) (tracks-ins lent i s p t (omega (arith, r .words)))

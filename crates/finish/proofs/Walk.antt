@@ -4,19 +4,23 @@ use mathlib.Core.Bool.{Bool, true, false, cond}
 use mathlib.Core.List.{List, [], _∷_}
 use Prim.Native.Nat.{ℕ, zero, suc, _+_, _-_, _*_, _/_, _%_, _^_, _<_, _≤_}
 use native.Mathlib.Omega.{arith}
-use lib.Dec.{ltb, eqb}
+use native.Mathlib.Nat.{mod-eq-of-lt}
+use lib.Dec.{ltb}
 use lib.IntN.{ℤ, pos, negsuc}
 use lib.ListN.{length, getD, take}
-use borrow.Author.Tests.{lt-ltb, ltb-true, ltb-false}
+use borrow.Author.Tests.{lt-ltb, ltb-true, ltb-false, ne-eqb}
 use Rattle.code.specs.Items.{Hole, b, bCond, cb, tb, adr, ldr, reachOf, Within, twos, bytes, Place, label, literal, Item, ins, go, new, bind, dist, size, binds, index, add, poolOf, Met, Reach}
-use Rattle.code.specs.Emit.{Fix, B26, B19, B14, Adr21, kind, patch, Goal, toLabel, toEntry, Fixup, lead, patched, patchAll}
-use Rattle.code.specs.Lent.{goalNo, fieldNo, kindNo}
+use Rattle.code.specs.declared.Fix.{Fix}
+use Rattle.code.specs.declared.Fix.the-variants.{B26, B19, B14, Adr21}
+use Rattle.code.specs.Emit.{kind, patch, Goal, toLabel, toEntry, Fixup, lead, patched, patchAll}
 use Rattle.code.proofs.Emit.{fixesOf, Kept, kept-new, kept-pool}
 use Rattle.code.proofs.Order.{patch-next}
 use Rattle.code.proofs.Reach.{index-le}
-use Rattle.asm.specs.State.{labelRoom, literalRoom, fixupsAt, packed}
-use Rattle.finish.specs.Finish.{fieldOf, patchIn, fixOf, leadIn, patchedWith, patchedAt, patchedTo}
-use Rattle.finish.proofs.Track.{number, nobody}
+use Rattle.asm.specs.declared.Reference.{Reference}
+use Rattle.asm.specs.declared.Reference.the-variants.{ToLabel, ToPool}
+use Rattle.asm.specs.State.{labelRoom, literalRoom, fixupsAt, fixNo, kindNo, goalNo, refNo, packed, fixOf, refOf}
+use Rattle.finish.specs.Finish.{fieldOf, patchIn, labelIn, leadIn, fieldIn, patchedWith, patchedCell, patchedAt, patchedTo}
+use Rattle.finish.proofs.Track.{referenceTo, number, nobody}
 
 -- ---- a distance in reach has the same field with the test and without it
 abbrev pub reachFix : Fix → ℕ
@@ -65,7 +69,7 @@ Whole (toEntry i) f = f ≡ B19
 
 pub record Good (to : Goal → ℕ) (f : Fixup) : Type 0 where
   pub low : f .at < 1048576
-  pub goal : goalNo (f .goal) < labelRoom
+  pub goal : goalNo (referenceTo (f .goal) (f .field)) < labelRoom
   pub whole : Whole (f .goal) (f .field)
   pub reach : Within (reachFix (f .field)) (dist (to (f .goal)) (f .at))
 
@@ -80,45 +84,55 @@ good-at to (f ∷ fs) zero h g = g .0
 good-at to (f ∷ fs) (suc n) h g = good-at to fs n (omega arith) (g .1)
 
 -- ---- a fix-up comes back from its number
-packed-at : (p g k : ℕ) → k < 8 → packed p g k / 2 ^ 32 ≡ p
-unfolding packed
-packed-at p g k h = omega arith
+field-low : (f : Fix) → fixNo f < 4
+field-low B26 = omega arith
+field-low B19 = omega arith
+field-low B14 = omega arith
+field-low Adr21 = omega arith
 
-packed-kind : (p g k : ℕ) → k < 8 → packed p g k % 2 ^ 32 % 8 ≡ k
-unfolding packed
-packed-kind p g k h = omega arith
+field-back : (f : Fix) → fixOf (fixNo f) ≡ f
+unfolding fixOf
+field-back B26 = refl
+field-back B19 = refl
+field-back B14 = refl
+field-back Adr21 = refl
 
-packed-goal : (p g k : ℕ) → k < 8 → g < labelRoom → packed p g k % 2 ^ 32 / 8 ≡ g
-unfolding packed
-packed-goal p g k h l = omega arith
+kind-low : (r : Reference) → kindNo r < 8
+kind-low (ToLabel l f) = omega (arith, field-low f)
+kind-low (ToPool i) = omega arith
 
-kind-low : (g : Goal) (f : Fix) → kindNo g f < 8
-unfolding kindNo fieldNo
-kind-low (toLabel l) B26 = omega arith
-kind-low (toLabel l) B19 = omega arith
-kind-low (toLabel l) B14 = omega arith
-kind-low (toLabel l) Adr21 = omega arith
-kind-low (toEntry i) f = omega arith
+packed-at : (p : ℕ) (r : Reference) → packed p r / 2 ^ 32 ≡ p
+unfolding packed refNo
+packed-at p r = omega (arith, kind-low r)
 
-field-back : (g : Goal) (f : Fix) → Whole g f → fixOf (kindNo g f) ≡ f
-unfolding fixOf kindNo fieldNo
-field-back (toLabel l) B26 w = refl
-field-back (toLabel l) B19 w = refl
-field-back (toLabel l) B14 w = refl
-field-back (toLabel l) Adr21 w = refl
-field-back (toEntry i) f w = sym w
+packed-low : (p : ℕ) (r : Reference) → packed p r % 2 ^ 32 ≡ refNo r
+unfolding packed refNo
+packed-low p r = omega (arith, kind-low r)
+
+ref-back : (r : Reference) → goalNo r < labelRoom → refOf (refNo r) ≡ r
+unfolding refOf refNo
+ref-back (ToLabel l f) h =
+    let n : ℕ = l .0 % 2 ^ 29 * 8 + fixNo f in
+    let z : l .0 % 2 ^ 29 ≡ l .0 = mod-eq-of-lt (omega (arith, h)) in
+    let k : n % 8 ≡ fixNo f = omega (arith, field-low f) in
+    let g : n / 8 ≡ l .0 = omega (arith, z, field-low f) in
+    rw (k, g, ne-eqb (fixNo f) 4 (omega (arith, field-low f)), field-back f)
+ref-back (ToPool i) h =
+    let n : ℕ = i % 2 ^ 29 * 8 + 4 in
+    let z : i % 2 ^ 29 ≡ i = mod-eq-of-lt (omega (arith, h)) in
+    let k : n % 8 ≡ 4 = omega arith in
+    let g : n / 8 ≡ i = omega (arith, z) in
+    rw (k, g)
 
 module _ (t labels : List ℕ) (base : ℕ) (same : (l : ℕ) → l < labelRoom → getD t l 0 ≡ getD labels l 0) where
-  label-back : (k l : ℕ) → eqb k 4 ≡ false → l < labelRoom → getD labels l 0 < 4294967296 → leadIn t base k l ≡ getD labels l 0
-  unfolding leadIn
-  label-back k l e h m = rw (e, lt-ltb l labelRoom h, same l h) (omega arith)
+  field-is : (g : Goal) (f : Fix) → Whole g f → fieldIn (referenceTo g f) ≡ f
+  field-is (toLabel l) f w = refl
+  field-is (toEntry i) f w = sym w
 
-  lead-back : (g : Goal) (f : Fix) → goalNo g < labelRoom → lead labels base g < 4294967296 → leadIn t base (kindNo g f) (goalNo g) ≡ lead labels base g
-  unfolding lead goalNo kindNo fieldNo leadIn
-  lead-back (toLabel l) B26 h m = label-back 0 l refl h m
-  lead-back (toLabel l) B19 h m = label-back 1 l refl h m
-  lead-back (toLabel l) B14 h m = label-back 2 l refl h m
-  lead-back (toLabel l) Adr21 h m = label-back 3 l refl h m
+  lead-back : (g : Goal) (f : Fix) → goalNo (referenceTo g f) < labelRoom → lead labels base g < 4294967296
+      → leadIn t base (referenceTo g f) ≡ lead labels base g
+  unfolding lead leadIn labelIn
+  lead-back (toLabel l) f h m = rw (lt-ltb l labelRoom h, same l h) (omega arith)
   lead-back (toEntry i) f h m = refl
 
   -- one fix-up
@@ -128,13 +142,20 @@ module _ (t labels : List ℕ) (base : ℕ) (same : (l : ℕ) → l < labelRoom 
   reach-low B14 = omega arith
   reach-low Adr21 = omega arith
 
-  patched-back : (f : Fixup) (ws : List ℕ) → Good (lead labels base) f → patchedWith t base (number f) ws ≡ patched (lead labels base) f ws
-  unfolding patchedWith patched number
+  patched-back : (f : Fixup) (ws : List ℕ) → Good (lead labels base) f
+      → patchedCell t base (number f) ws ≡ patched (lead labels base) f ws
+  unfolding patchedCell patchedWith patched number
   patched-back f ws g =
-      let k : ℕ = kindNo (f .goal) (f .field) in
-      let m : k < 8 = kind-low (f .goal) (f .field) in
+      let r : Reference = referenceTo (f .goal) (f .field) in
       let l : lead labels base (f .goal) < 4294967296 = omega (arith, near (reachFix (f .field)) (lead labels base (f .goal)) (f .at) (g .reach), reach-low (f .field), g .low) in
-      rw (packed-at (f .at) (goalNo (f .goal)) k m, packed-kind (f .at) (goalNo (f .goal)) k m, packed-goal (f .at) (goalNo (f .goal)) k m (g .goal), field-back (f .goal) (f .field) (g .whole), lead-back (f .goal) (f .field) (g .goal) l, patch-in (f .field) (dist (lead labels base (f .goal)) (f .at)) (g .reach))
+      rw (
+        packed-at (f .at) r,
+        packed-low (f .at) r,
+        ref-back r (g .goal),
+        field-is (f .goal) (f .field) (g .whole),
+        lead-back (f .goal) (f .field) (g .goal) l,
+        patch-in (f .field) (dist (lead labels base (f .goal)) (f .at)) (g .reach),
+      )
 
   -- THE WALK OVER THE TABLE
   pub walk : (fs : List Fixup) (n : ℕ) (ws : List ℕ) → n ≤ length fs → Goods (lead labels base) fs → ((m : ℕ) → m < length fs → getD t (fixupsAt + m) 0 ≡ number (getD fs m nobody))
@@ -142,7 +163,7 @@ module _ (t labels : List ℕ) (base : ℕ) (same : (l : ℕ) → l < labelRoom 
   unfolding patchedTo patchedAt patchAll
   walk fs zero ws h g e = refl
   walk fs (suc n) ws h g e =
-      ap₂ (λ (x : ℕ) (y : List ℕ). patchedWith t base x y) (e n (omega arith)) (walk fs n ws (omega arith) g e)
+      ap₂ (λ (x : ℕ) (y : List ℕ). patchedCell t base x y) (e n (omega arith)) (walk fs n ws (omega arith) g e)
       ∙ patched-back (getD fs n nobody) (patchAll (lead labels base) (take n fs) ws) (good-at (lead labels base) fs n (omega arith) g)
       ∙ sym (patch-next (lead labels base) nobody n fs ws (omega arith))
 
@@ -158,11 +179,12 @@ Loads (bind l ∷ is) = Loads is
 
 module _ (to : Goal → ℕ) (at : Place → ℕ) (pool : List ℕ) (all : List Item) (labels-same : (l : ℕ) → binds l all ≡ true → to (toLabel l) ≡ at (label l)) (entries-same : (v i : ℕ) → Kept v i pool → to (toEntry i) ≡ at (literal v))
     (bound : (l : ℕ) → binds l all ≡ true → l < labelRoom) (few : length pool ≤ literalRoom) where
-  good : (h : Hole) (g : Goal) (x : Place) (p : ℕ) → p < 1048576 → goalNo g < labelRoom → Whole g (kind h) → to g ≡ at x → Within (reachOf h) (dist (at x) p) → Good to (record { at = p; goal = g; field = kind h })
+  good : (h : Hole) (g : Goal) (x : Place) (p : ℕ) → p < 1048576 → goalNo (referenceTo g (kind h)) < labelRoom → Whole g (kind h)
+      → to g ≡ at x → Within (reachOf h) (dist (at x) p) → Good to (record { at = p; goal = g; field = kind h })
   good h g x p a c w e r = record { low = a; goal = c; whole = w; reach = subst (λ n. Within n (dist (to g) p)) (reach-kind h) (subst (λ n. Within (reachOf h) (dist n p)) (sym e) r) }
 
   pub goods : (p : ℕ) (ps : List ℕ) (is : List Item) → poolOf ps is ≡ pool → p + size is ≤ 1048576 → Reach at p is → Loads is → Met all is → Goods to (fixesOf p ps is)
-  unfolding Goods fixesOf poolOf size Reach Loads Met goalNo
+  unfolding Goods fixesOf poolOf size Reach Loads Met
   goods p ps [] q n r l m = tt
   goods p ps (ins i ∷ is) q n r l m = goods (suc p) ps is q (omega arith) r l m
   goods p ps (go h (label x) ∷ is) q n r l m = (good h (toLabel x) (label x) p (omega arith) (bound x (m .0)) tt (labels-same x (m .0)) (r .0), goods (suc p) ps is q (omega arith) (r .1) l (m .1))

@@ -2,12 +2,15 @@
 use mathlib.Core.Bool.{Bool}
 use mathlib.Core.List.{List, [], _∷_, _++_}
 use Prim.Native.Nat.{ℕ, zero, suc, _+_, _*_, _/_, _%_, _^_}
-use lib.Dec.{ltb, eqb}
+use lib.Dec.{ltb}
 use lib.IntN.{ℤ, pos, negsuc}
 use lib.ListN.{length, getD, set, replicate}
 use Rattle.code.specs.Items.{pick, twos, bytes, dist, halves, padOf, baseOf}
-use Rattle.code.specs.Emit.{Fix, B26, B19, B14, Adr21}
-use Rattle.asm.specs.State.{labelRoom, fixupRoom, fixupsAt, State, atMost, kept, held}
+use Rattle.code.specs.declared.Fix.{Fix}
+use Rattle.code.specs.declared.Fix.the-variants.{B26, B19, B14, Adr21}
+use Rattle.asm.specs.declared.Reference.{Reference}
+use Rattle.asm.specs.declared.Reference.the-variants.{ToLabel, ToPool}
+use Rattle.asm.specs.State.{labelRoom, fixupRoom, fixupsAt, refOf, State, atMost, kept, held}
 use Rattle.finish.specs.declared.Finished.{Finished}
 use Rattle.finish.specs.declared.Finished.the-variants.{Words, Short}
 
@@ -26,21 +29,27 @@ patchIn B14 z = fieldOf (2 ^ 13) z * 32
 patchIn Adr21 z = fieldOf (2 ^ 20) (bytes z) % 4 * 2 ^ 29 + fieldOf (2 ^ 20) (bytes z) / 4 * 32
 
 -- ---- fix-up n of the table, on the words
-unfoldable pub fixOf : ℕ → Fix
-fixOf k = pick (eqb k 0) B26 (pick (eqb k 2) B14 (pick (eqb k 3) Adr21 B19))
+unfoldable pub labelIn : List ℕ → (l : ℕ) → ℕ
+labelIn t l = pick (ltb l labelRoom) (getD t l 0 % 2 ^ 32) 0
 
--- to a literal of the pool at `base`, or to a label
-unfoldable pub leadIn : List ℕ → (base kind goal : ℕ) → ℕ
-leadIn t base k g = pick (eqb k 4) (base + 2 * g) (pick (ltb g labelRoom) (getD t g 0 % 2 ^ 32) 0)
+-- to a label, or to a literal of the pool at `base`
+unfoldable pub leadIn : List ℕ → (base : ℕ) → Reference → ℕ
+leadIn t base (ToLabel l f) = labelIn t (l .0)
+leadIn t base (ToPool i) = base + 2 * i
 
--- position, number and kind, as they were packed
-unfoldable pub patchedWith : List ℕ → (base entry : ℕ) → List ℕ → List ℕ
-patchedWith t base e ws =
-    set ws (e / 2 ^ 32)
-    ((getD ws (e / 2 ^ 32) 0 + patchIn (fixOf (e % 2 ^ 32 % 8)) (dist (leadIn t base (e % 2 ^ 32 % 8) (e % 2 ^ 32 / 8)) (e / 2 ^ 32))) % 2 ^ 32)
+abbrev pub fieldIn : Reference → Fix
+fieldIn (ToLabel l f) = f
+fieldIn (ToPool i) = B19
+
+unfoldable pub patchedWith : List ℕ → (base at : ℕ) → Reference → List ℕ → List ℕ
+patchedWith t base at r ws = set ws at ((getD ws at 0 + patchIn (fieldIn r) (dist (leadIn t base r) at)) % 2 ^ 32)
+
+-- position and reference, as they were packed
+unfoldable pub patchedCell : List ℕ → (base cell : ℕ) → List ℕ → List ℕ
+patchedCell t base e ws = patchedWith t base (e / 2 ^ 32) (refOf (e % 2 ^ 32)) ws
 
 unfoldable pub patchedAt : List ℕ → (base n : ℕ) → List ℕ → List ℕ
-patchedAt t base n ws = patchedWith t base (getD t (fixupsAt + n) 0) ws
+patchedAt t base n ws = patchedCell t base (getD t (fixupsAt + n) 0) ws
 
 unfoldable pub patchedTo : List ℕ → (base n : ℕ) → List ℕ → List ℕ
 patchedTo t base zero ws = ws

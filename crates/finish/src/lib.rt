@@ -5,9 +5,13 @@ ghost use lib.Signed.{mag};
 ghost use lib.ListN.{set, length, getD};
 ghost use Rattle.code.specs.Items.{dist, halves, padOf, baseOf};
 ghost use Rattle.asm.specs.State.{literalRoom, fixupRoom, state, atMost, literalsFrom};
-ghost use Rattle.finish.specs.Finish.{fieldOf, patchIn, fixOf, leadIn, patchedAt, patchedTo, write, zeros, finished, finishedWords};
+ghost use Rattle.finish.specs.Finish.{fieldOf, patchIn, fieldIn, labelIn, leadIn, patchedAt, patchedTo};
+ghost use Rattle.finish.specs.Finish.{write, zeros, finished, finishedWords};
 ghost use Rattle.finish.specs.Whole.{countOf};
 use asm::Asm;
+use asm::Label;
+use asm::Reference;
+use code::Fix;
 
 // The words of a block, or how many are needed where fewer are lent.
 pub enum Finished {
@@ -74,35 +78,51 @@ fn field(half: u32, distance: i64) -> u32
 }
 
 // What is added to a word for its distance in words; the distance of `adr` is in bytes, its two lowest bits apart.
-fn patch(kind: u32, there: u64, here: u32) -> u32
+fn patch(f: Fix, there: u64, here: u32) -> u32
     requires { ⌜ there < 2 ^ 34 ⌝ }
-    ensures { λ r. ⌜ r ≡ patchIn (fixOf kind) (dist there here) ⌝ }
+    ensures { λ r. ⌜ r ≡ patchIn f (dist there here) ⌝ }
 {
     let h = here as u64;
-    if kind == asm::B26 {
-        return field(HALF26, distance(there, h));
+    match f {
+        Fix::B26 => field(HALF26, distance(there, h)),
+        Fix::B19 => field(HALF19, distance(there, h)) * 32,
+        Fix::B14 => field(HALF14, distance(there, h)) * 32,
+        Fix::Adr21 => {
+            let bytes = field(HALF21, distance(4 * there, 4 * h));
+            bytes % 4 * 536870912 + bytes / 4 * 32
+        }
     }
-    if kind == asm::B14 {
-        return field(HALF14, distance(there, h)) * 32;
-    }
-    if kind == asm::ADR21 {
-        let bytes = field(HALF21, distance(4 * there, 4 * h));
-        return bytes % 4 * 536870912 + bytes / 4 * 32;
-    }
-    field(HALF19, distance(there, h)) * 32
 }
 
-// Where a fix-up leads: to a literal of the pool, or to a label.
-fn target(tab: &[u64; asm::TABLE], base: u32, kind: u32, goal: u32) -> u64
-    ensures { λ r. ⌜ (r ≡ leadIn (now (tab .entry)) base kind goal) × (r < 2 ^ 34) ⌝ }
+// Where a label stands.
+fn label_at(tab: &[u64; asm::TABLE], l: Label) -> u64
+    ensures { λ r. ⌜ (r ≡ labelIn (now (tab .entry)) (l .0)) × (r < 2 ^ 32) ⌝ }
 {
-    if kind == asm::LITERAL {
-        return (base as u64) + 2 * (goal as u64);
-    }
-    if goal < asm::LABELS {
-        return tab[goal as usize] % 4294967296;
+    let n = l.0;
+    if n < asm::LABELS {
+        return tab[n as usize] % 4294967296;
     }
     0
+}
+
+// Where a reference leads: to a label, or to a literal of the pool.
+fn target(tab: &[u64; asm::TABLE], base: u32, to: Reference) -> u64
+    ensures { λ r. ⌜ (r ≡ leadIn (now (tab .entry)) base to) × (r < 2 ^ 34) ⌝ }
+{
+    match to {
+        Reference::ToLabel(l, _) => label_at(tab, l),
+        Reference::ToPool(i) => (base as u64) + 2 * (i as u64),
+    }
+}
+
+// The field of a reference's distance.
+fn field_of(to: Reference) -> Fix
+    ensures { λ r. ⌜ r ≡ fieldIn to ⌝ }
+{
+    match to {
+        Reference::ToLabel(_, f) => f,
+        Reference::ToPool(_) => Fix::B19,
+    }
 }
 
 fn patch_at(words: &mut [u32], at: u32, f: u32)
@@ -122,10 +142,9 @@ fn patch_one(words: &mut [u32], tab: &[u64; asm::TABLE], base: u32, n: u32)
 {
     let e = tab[asm::FIXUPS_AT + (n as usize)];
     let at = high(e);
-    let goal = low(e) / 8;
-    let kind = low(e) % 8;
-    let there = target(tab, base, kind, goal);
-    let f = patch(kind, there, at);
+    let to = asm::ref_of(low(e));
+    let there = target(tab, base, to);
+    let f = patch(field_of(to), there, at);
     patch_at(words, at, f);
 }
 

@@ -198,10 +198,6 @@ seven i i₁ i₂ i₃ i₄ i₅ i₆ s₀ s s₁ s₂ s₃ s₄ s₅ s₆ p p�
 
 -- ---- without a site
 module _ (blk : Block) (rc : RegCache) {n : Depth} (e : Var n → ℕ) (x : ℕ) (s : State) where
-  pub exit-imm-sites : (pc count : ℕ) → startsT (exitImm blk rc pc count) e x s ≡ []
-  unfolding startsT exitImm
-  exit-imm-sites pc count = refl
-
   pub ind-sites : (t count : ℕ) (brk : Bool) → startsT (ind blk rc t count brk) e x s ≡ []
   unfolding startsT ind brkFirst
   ind-sites t count true = refl

@@ -48,6 +48,9 @@ const LIMIT: u32 = 27;
 
 const SP: u32 = 31;
 
+// The label of the common exit: the first that a block gives out.
+pub const EXIT: Label = Label(0);
+
 // Bytes of the context: the break word, the slot of the last exit.
 const OFF_BRK: u32 = 24;
 
@@ -120,7 +123,7 @@ fn leave(out: &mut [u32], tab: &mut [u64; 6152], a: Asm, store: u32) -> Asm
 {
     let a = emission::ins(out, tab, a, store);
     let a = emission::mov(out, tab, a, 0, DONE);
-    asm::b(out, tab, a, Label(0))
+    asm::b(out, tab, a, EXIT)
 }
 
 // Leave with pc, so many operations of this block done.
@@ -139,7 +142,7 @@ pub fn exit_imm(
     let a = moves::mov32(out, tab, a, 9, pc);
     let a = str(out, tab, a, 9, CPU, lay.pc);
     let a = emission::add_imm(out, tab, a, 0, DONE, count);
-    asm::b(out, tab, a, Label(0))
+    asm::b(out, tab, a, EXIT)
 }
 
 // A site's branch, to the word behind it until `link` patches it, and pc.

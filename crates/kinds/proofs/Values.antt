@@ -22,7 +22,7 @@ use Rattle.arm.specs.declared.Three.the-variants.{Madd, Msub}
 use Rattle.machine.specs.Bits.{SInt, toBits, SignExtend, NOT, CountLeadingZeroBits}
 use Rattle.machine.specs.Execute.{addSub, shifted, one, two, three, extracted}
 use Rattle.block.specs.declared.UnKind.{UnKind}
-use Rattle.machine.proofs.Numbers.{lsl-zero, lsl-field, add-is, sub-is, msub-is}
+use Rattle.machine.proofs.Numbers.{lsl-zero, lsl-field, add-is, sub-is}
 use Rattle.card.specs.Word.{plus, minus, complement, bit, signedOf, bitsOf, shl, shr, sar, signExtend, field, un, leadingZeros, unlessZero, quotS, quotU, mask}
 use Rattle.code.specs.Items.{pick}
 use Rattle.lowering.specs.Steps.{ones, hole, sign}

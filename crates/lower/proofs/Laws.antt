@@ -17,7 +17,8 @@ use Rattle.asm.specs.State.{State, state}
 use Rattle.emission.specs.Total.{emitted, afterT, startsT}
 use Rattle.emission.proofs.After.{code-after}
 use Rattle.stepping.specs.Behind.{cacheBehind}
-use Rattle.stepping.proofs.Steps.{cache-append, targets-append, steps-after, steps-starts, none-after, one-after, one-starts}
+use Rattle.lowering.proofs.Targets.{targets-append}
+use Rattle.stepping.proofs.Steps.{cache-append, steps-after, steps-starts, none-after, one-after, one-starts}
 use Rattle.lower.specs.declared.Lowered.{Lowered}
 use Rattle.lower.specs.Lowers.{atsOf, targetsOf, kept, Lowers}
 

@@ -3,3 +3,4 @@ pub mod Lookups
 pub mod Latest
 pub mod Recency
 pub mod SameWords
+pub mod Targets

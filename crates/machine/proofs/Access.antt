@@ -3,20 +3,18 @@
 --     access-load, access-signed, access-store     what it does; exec-imm .. come before, by `_∙_`
 --     pair-load, pair-store                    two registers, sixteen bytes
 --     exec-pair                                the address of a pair, and the base afterwards
---     exec-pair-sp, exec-push, exec-pop        the same with sp as the base
 -- Assumes nothing.
-use mathlib.Core.Path.{_≡_, refl, ap, ap₂, _∙_}
+use mathlib.Core.Path.{_≡_, refl, ap, _∙_}
 use mathlib.Core.Bool.{true}
 use mathlib.Core.List.{List}
-use Prim.Native.Nat.{ℕ, _+_, _-_, _*_, _%_, _^_, _≤_, _<_}
+use Prim.Native.Nat.{ℕ, _+_, _*_, _%_, _^_, _<_}
 use native.Mathlib.Omega.{arith}
 use lib.ListN.{length}
-use Rattle.machine.specs.Isa.{W, X, Access, Scale, Mode, Post, Offset, Pre, Pair, Stp, Ldp, MemoryImm, MemoryReg, MemoryPair, LoadLiteral}
+use Rattle.machine.specs.Isa.{W, X, Access, Scale, Mode, Pair, Stp, Ldp, MemoryImm, MemoryReg, MemoryPair, LoadLiteral}
 use Rattle.machine.specs.Bits.{SignExtend}
-use Rattle.machine.specs.State.{Region, State, R, RSP, withX, withSP, withMem}
+use Rattle.machine.specs.State.{Region, State, R, RSP, withX, withMem}
 use Rattle.machine.specs.Memory.{readLE, writeLE, bytesOf, withBytes, load, store, writable, Apart}
 use Rattle.machine.specs.Execute.{Helpers, done, accessed, stores, loads, loadsSigned, direction, accessBytes, access, scaleBy, pairAddress, writeback, pair, words, execute}
-use Rattle.machine.proofs.Numbers.{sign-low, sign-back}
 use Rattle.machine.proofs.Regions.{At, Alike, load-ok, store-ok, at-part, at-alike, alike-store, apart-alike, bytes-same, with-with}
 
 -- ---- addresses
@@ -38,26 +36,6 @@ module _ (h : Helpers) (s : State) where
       ≡ (let d : ℕ = (RSP X s rn + SignExtend 10 64 (imm * 8)) % 2 ^ 64 in pair p (pairAddress m (RSP X s rn) d) rt rt2 (writeback m rn d) s)
   unfolding execute
   exec-pair m p imm rt2 rn rt = refl
-
-  -- pairs with sp as their base: at an offset, with sp lowered before, and raised after
-  pub exec-pair-sp : (p : Pair) (imm rt2 rt : ℕ) → imm < 64 → execute h (MemoryPair Offset p imm rt2 31 rt) s ≡ pair p ((s .sp % 2 ^ 64 + imm * 8) % 2 ^ 64) rt rt2 (λ t. t) s
-  exec-pair-sp p imm rt2 rt l = exec-pair Offset p imm rt2 31 rt ∙ ap (λ d. pair p ((s .sp % 2 ^ 64 + d) % 2 ^ 64) rt rt2 (λ t. t) s) (sign-low 10 64 (imm * 8) (omega arith))
-
-  pub exec-push : (p : Pair) (k rt2 rt : ℕ) → 0 < k → k ≤ 64 → k * 8 ≤ s .sp → s .sp < 2 ^ 64
-      → execute h (MemoryPair Pre p (128 - k) rt2 31 rt) s ≡ pair p (s .sp - k * 8) rt rt2 (withSP (s .sp - k * 8)) s
-  exec-push p k rt2 rt z l b c =
-      let e : (128 - k) * 8 ≡ 2 ^ 10 - k * 8 = omega arith in
-      exec-pair Pre p (128 - k) rt2 31 rt
-      ∙ ap (λ d. pair p ((s .sp % 2 ^ 64 + d) % 2 ^ 64) rt rt2 (withSP ((s .sp % 2 ^ 64 + d) % 2 ^ 64)) s)
-      (ap (SignExtend 10 64) e ∙ sign-back 10 64 (k * 8) (omega arith) (omega arith) (omega arith) (omega arith))
-      ∙ ap (λ d. pair p d rt rt2 (withSP d) s) (omega arith)
-
-  pub exec-pop : (p : Pair) (imm rt2 rt : ℕ) → imm < 64 → s .sp + imm * 8 < 2 ^ 64
-      → execute h (MemoryPair Post p imm rt2 31 rt) s ≡ pair p (s .sp) rt rt2 (withSP (s .sp + imm * 8)) s
-  exec-pop p imm rt2 rt l c =
-      exec-pair Post p imm rt2 31 rt
-      ∙ ap (λ d. pair p (s .sp % 2 ^ 64) rt rt2 (withSP ((s .sp % 2 ^ 64 + d) % 2 ^ 64)) s) (sign-low 10 64 (imm * 8) (omega arith))
-      ∙ ap₂ (λ a d. pair p a rt rt2 (withSP d) s) (omega arith) (omega arith)
 
 -- ---- one register
 module _ (s : State) (apart : Apart (s .mem)) (rt : ℕ) {a k o n : ℕ} (here : At (s .mem) a k o n) where

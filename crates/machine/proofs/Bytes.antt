@@ -1,7 +1,7 @@
 -- Little-endian numbers in a list of bytes.
 --     read-same                      what n bytes hold after a write to them: the number mod 256 ^ n
 --     read-below, read-above         bytes before and behind the place written hold what they held
---     getD-writeLE-below, -above     the same of one byte
+--     getD-writeLE-below, getD-writeLE-above     the same of one byte
 --     read-lt                        n bytes are a number below 256 ^ n
 --     length-writeLE                 a write keeps the length
 -- Assumes nothing.

@@ -1,20 +1,15 @@
--- Branches, addresses of words, and helper calls.
+-- Branches and addresses of words.
 --     exec-b, exec-b-cond, exec-cb, exec-tb      a branch forward, by so many words
 --     exec-adr, exec-adr-back                    an address ahead, and one behind by so many words
---     exec-br, exec-ret                          leaving
---     exec-blr-read, exec-blr-write              a helper call that finds an outcome
 -- Assumes nothing.
-use mathlib.Core.Path.{_≡_, refl, sym, ap, _∙_}
-use mathlib.Core.Logic.{_≢_}
+use mathlib.Core.Path.{_≡_, ap, _∙_}
 use mathlib.Core.Bool.{true, not}
-use mathlib.Core.List.{List, _∷_}
 use Prim.Native.Nat.{ℕ, _+_, _-_, _*_, _%_, _^_, _≤_, _<_}
 use native.Mathlib.Omega.{arith}
-use borrow.Author.Tests.{eq-eqb, ne-eqb}
-use Rattle.machine.specs.Isa.{Size, W, X, Test, Br, Blr, Ret, CompareBranch, TestBranch, CondBranch, Branch, BranchReg, Adr}
+use Rattle.machine.specs.Isa.{Size, X, Test, CompareBranch, TestBranch, CondBranch, Branch, Adr}
 use Rattle.machine.specs.Bits.{bit, IsZero, ConditionHolds}
-use Rattle.machine.specs.State.{State, Outcome, read, write, R, withX, goto}
-use Rattle.machine.specs.Execute.{Helpers, next, returned, jumped, done, branchIf, tested, called, ask, execute}
+use Rattle.machine.specs.State.{State, R, withX, goto}
+use Rattle.machine.specs.Execute.{Helpers, next, done, branchIf, tested, execute}
 use Rattle.machine.proofs.Numbers.{words-forward, sign-low, sign-back}
 
 module _ (h : Helpers) (s : State) where
@@ -46,24 +41,3 @@ module _ (h : Helpers) (s : State) where
   exec-adr-back d rd p l b =
       ap (λ e. done (withX rd ((s .pc + e) % 2 ^ 64) s)) (sign-back 21 64 d (omega arith) (omega arith) p l)
       ∙ ap (λ v. done (withX rd v s)) (omega arith)
-
-  -- ---- leaving
-  pub exec-br : (rn : ℕ) → execute h (BranchReg Br rn) s ≡ jumped (goto (R X s rn) s)
-  unfolding execute
-  exec-br rn = refl
-
-  pub exec-ret : (rn : ℕ) → execute h (BranchReg Ret rn) s ≡ returned (goto (R X s rn) s)
-  unfolding execute
-  exec-ret rn = refl
-
-  -- ---- helper calls
-  pub exec-blr-read : (rn : ℕ) (o : Outcome) (os : List Outcome) → R X s rn ≡ h .h-read → s .outcomes ≡ o ∷ os
-      → execute h (BranchReg Blr rn) s ≡ done (called (read (R W s 1) (R W s 3) (R W s 2)) o os s)
-  unfolding execute
-  exec-blr-read rn o os e q = rw (eq-eqb (R X s rn) (h .h-read) e) (ap (λ l. ask (read (R W s 1) (R W s 3) (R W s 2)) l s) q)
-
-  pub exec-blr-write : (rn : ℕ) (o : Outcome) (os : List Outcome) → R X s rn ≡ h .h-write → h .h-write ≢ h .h-read → s .outcomes ≡ o ∷ os
-      → execute h (BranchReg Blr rn) s ≡ done (called (write (R W s 1) (R W s 4) (R W s 3) (R W s 2)) o os s)
-  unfolding execute
-  exec-blr-write rn o os e d q =
-      rw (ne-eqb (R X s rn) (h .h-read) (λ u. d (sym e ∙ u)), eq-eqb (R X s rn) (h .h-write) e) (ap (λ l. ask (write (R W s 1) (R W s 4) (R W s 3) (R W s 2)) l s) q)

@@ -1,29 +1,28 @@
 -- What the data-processing instructions of the lowering do, each as one equation `execute h i s ≡ done ..`.
 --     exec-movz, exec-movn, exec-movk                            constants
---     exec-add, exec-add-lsl, exec-sub, exec-subs, exec-cmp      add/subtract (shifted register); exec-neg
---     exec-add-imm, exec-sub-imm, exec-cmp-imm                   add/subtract (immediate), between general registers
---     exec-logic, exec-bic, exec-mov, exec-mvn, exec-tst         logical (shifted register)
---     exec-ubfx, exec-sbfx, exec-lsl-imm, exec-lsr-imm, exec-asr-imm     bitfield
---     exec-one, exec-two, exec-mul, exec-msub, exec-csel         the rest
+--     exec-add, exec-add-lsl, exec-sub, exec-subs, exec-cmp      add/subtract (shifted register)
+--     exec-add-imm, exec-sub-imm                                 add/subtract (immediate), between general registers
+--     exec-logic, exec-mov                                       logical (shifted register)
+--     exec-ubfx, exec-sbfx, exec-lsr-imm                         bitfield
 -- Assumes nothing.
 use mathlib.Core.Path.{_≡_, refl, ap, _∙_}
-use mathlib.Core.Bool.{true, false, cond}
+use mathlib.Core.Bool.{true, false}
 use Prim.Native.Nat.{ℕ, _+_, _-_, _*_, _/_, _%_, _^_, _<_}
 use native.Mathlib.Nat.{add-mod-mod}
 use native.Mathlib.Omega.{arith}
 use borrow.Author.Tests.{ne-eqb}
-use lib.Bits.{bitAnd, or-zero-l}
+use lib.Bits.{or-zero-l}
 use lib.ListN.{length}
 use Rattle.arm.specs.Instr.{bits}
-use Rattle.machine.specs.Isa.{Size, W, Add, Sub, Keeps, Sets, Lsl, Movn, Movz, Movk, Logic, And, Orr, Ands, Plain, Inverted, Sbfm, Ubfm, One, Two, Madd, Msub, Select}
-use Rattle.machine.specs.Isa.{MoveWide, AddSubImm, AddSubShifted, LogicalShifted, Bitfield, OneSource, TwoSource, ThreeSource, CondSelect}
-use Rattle.machine.specs.Bits.{SignExtend, NOT, LSL, ASR, Sum, AddWithCarry, ConditionHolds}
+use Rattle.machine.specs.Isa.{Size, W, Add, Sub, Keeps, Sets, Lsl, Movn, Movz, Movk, Logic, Orr, Plain, Sbfm, Ubfm}
+use Rattle.machine.specs.Isa.{MoveWide, AddSubImm, AddSubShifted, LogicalShifted, Bitfield}
+use Rattle.machine.specs.Bits.{SignExtend, NOT, LSL, Sum, AddWithCarry}
 use Rattle.machine.specs.State.{State, R, RSP, withX, withXSP, withFlags}
-use Rattle.machine.specs.Execute.{Helpers, done, logic, logicFlags, flagsIf, testFlags, one, two, three, otherwise, execute}
+use Rattle.machine.specs.Execute.{Helpers, done, logic, logicFlags, flagsIf, testFlags, execute}
 use Rattle.machine.proofs.Registers.{R-lt, R-31, withX-31}
 use Rattle.machine.proofs.Flags.{compared}
-use Rattle.machine.proofs.Numbers.{lsl-zero, add-is, sub-is, msub-is}
-use Rattle.machine.proofs.Values.{ubfx-is, sbfx-is, lsr-is, asr-is, lsl-is, mul-is}
+use Rattle.machine.proofs.Numbers.{lsl-zero, add-is, sub-is}
+use Rattle.machine.proofs.Values.{ubfx-is, sbfx-is, lsr-is}
 
 -- a register that is no stack pointer
 pub RSP-reg : (z : Size) (s : State) (n : ℕ) → n < 31 → RSP z s n ≡ R z s n
@@ -63,9 +62,6 @@ module _ (h : Helpers) (s : State) where
       ap (λ v. done (withX rd v s))
       (ap (λ b. AddWithCarry (bits z) (R z s rn) (NOT (bits z) b) true .result) (lsl-zero z (R z s rm) (R-lt z s rm)) ∙ sub-is (bits z) (R z s rn) (R z s rm) (R-lt z s rm))
 
-  pub exec-neg : (z : Size) (rm rd : ℕ) → length (s .x) ≡ 31 → execute h (AddSubShifted z Sub Keeps Lsl rm 0 31 rd) s ≡ done (withX rd ((2 ^ bits z - R z s rm) % 2 ^ bits z) s)
-  exec-neg z rm rd e = exec-sub z rm 31 rd ∙ ap (λ v. done (withX rd (v % 2 ^ bits z) s)) (ap (λ a. a + (2 ^ bits z - R z s rm)) (R-31 z s e) ∙ omega arith)
-
   pub exec-subs : (z : Size) (rm rn rd : ℕ) → execute h (AddSubShifted z Sub Sets Lsl rm 0 rn rd) s
       ≡ done (withX rd ((R z s rn + (2 ^ bits z - R z s rm)) % 2 ^ bits z) (withFlags (compared z (R z s rn) (R z s rm)) s))
   unfolding execute
@@ -90,33 +86,14 @@ module _ (h : Helpers) (s : State) where
       ap done (withXSP-reg rd (AddWithCarry (bits z) (RSP z s rn) (NOT (bits z) imm) true .result) s k)
       ∙ ap (λ v. done (withX rd v s)) (ap (λ a. AddWithCarry (bits z) a (NOT (bits z) imm) true .result) (RSP-reg z s rn l) ∙ sub-is (bits z) (R z s rn) imm m)
 
-  pub exec-cmp-imm : (z : Size) (imm rn : ℕ) → rn < 31 → length (s .x) ≡ 31 → execute h (AddSubImm z Sub Sets imm rn 31) s ≡ done (withFlags (compared z (R z s rn) imm) s)
-  unfolding execute
-  exec-cmp-imm z imm rn l e =
-      ap (λ a. let r : Sum = AddWithCarry (bits z) a (NOT (bits z) imm) true in done (withX 31 (r .result) (withFlags (r .nzcv) s))) (RSP-reg z s rn l)
-      ∙ ap done (withX-31 (AddWithCarry (bits z) (R z s rn) (NOT (bits z) imm) true .result) (withFlags (compared z (R z s rn) imm) s) e)
-
   -- ---- logical (shifted register)
   pub exec-logic : (z : Size) (o : Logic) (rm rn rd : ℕ) → execute h (LogicalShifted z o Plain Lsl rm 0 rn rd) s
       ≡ done (withX rd (logic o (R z s rn) (R z s rm)) (flagsIf (logicFlags o) (testFlags z (logic o (R z s rn) (R z s rm))) s))
   unfolding execute
   exec-logic z o rm rn rd = ap (λ b. let r : ℕ = logic o (R z s rn) b in done (withX rd r (flagsIf (logicFlags o) (testFlags z r) s))) (lsl-zero z (R z s rm) (R-lt z s rm))
 
-  pub exec-tst : (z : Size) (rm rn : ℕ) → length (s .x) ≡ 31 → execute h (LogicalShifted z Ands Plain Lsl rm 0 rn 31) s ≡ done (withFlags (testFlags z (bitAnd (R z s rn) (R z s rm))) s)
-  exec-tst z rm rn e = exec-logic z Ands rm rn 31 ∙ ap done (withX-31 (bitAnd (R z s rn) (R z s rm)) (withFlags (testFlags z (bitAnd (R z s rn) (R z s rm))) s) e)
-
   pub exec-mov : (z : Size) (rm rd : ℕ) → length (s .x) ≡ 31 → execute h (LogicalShifted z Orr Plain Lsl rm 0 31 rd) s ≡ done (withX rd (R z s rm) s)
   exec-mov z rm rd e = exec-logic z Orr rm 31 rd ∙ ap (λ v. done (withX rd v s)) (ap (λ a. logic Orr a (R z s rm)) (R-31 z s e) ∙ or-zero-l (R z s rm))
-
-  pub exec-bic : (z : Size) (rm rn rd : ℕ) → execute h (LogicalShifted z And Inverted Lsl rm 0 rn rd) s ≡ done (withX rd (bitAnd (R z s rn) (NOT (bits z) (R z s rm))) s)
-  unfolding execute
-  exec-bic z rm rn rd = ap (λ b. done (withX rd (bitAnd (R z s rn) (NOT (bits z) b)) s)) (lsl-zero z (R z s rm) (R-lt z s rm))
-
-  pub exec-mvn : (z : Size) (rm rd : ℕ) → length (s .x) ≡ 31 → execute h (LogicalShifted z Orr Inverted Lsl rm 0 31 rd) s ≡ done (withX rd (NOT (bits z) (R z s rm)) s)
-  unfolding execute
-  exec-mvn z rm rd e =
-      ap (λ b. done (withX rd (logic Orr (R z s 31) (NOT (bits z) b)) s)) (lsl-zero z (R z s rm) (R-lt z s rm))
-      ∙ ap (λ v. done (withX rd v s)) (ap (λ a. logic Orr a (NOT (bits z) (R z s rm))) (R-31 z s e) ∙ or-zero-l (NOT (bits z) (R z s rm)))
 
   -- ---- bitfield
   pub exec-ubfx : (z : Size) (lsb w rn rd : ℕ) → 0 < w → execute h (Bitfield z Ubfm lsb (lsb + w - 1) rn rd) s ≡ done (withX rd (R z s rn / 2 ^ lsb % 2 ^ w) s)
@@ -130,33 +107,3 @@ module _ (h : Helpers) (s : State) where
   pub exec-lsr-imm : (z : Size) (n rn rd : ℕ) → n < bits z → execute h (Bitfield z Ubfm n (bits z - 1) rn rd) s ≡ done (withX rd (R z s rn / 2 ^ n) s)
   unfolding execute
   exec-lsr-imm z n rn rd l = ap (λ v. done (withX rd v s)) (lsr-is z n (R z s rd) (R z s rn) l (R-lt z s rn))
-
-  pub exec-asr-imm : (z : Size) (n rn rd : ℕ) → n < bits z → execute h (Bitfield z Sbfm n (bits z - 1) rn rd) s ≡ done (withX rd (ASR (bits z) (R z s rn) n) s)
-  unfolding execute
-  exec-asr-imm z n rn rd l = ap (λ v. done (withX rd v s)) (asr-is z n (R z s rd) (R z s rn) l (R-lt z s rn))
-
-  pub exec-lsl-imm : (z : Size) (n rn rd : ℕ) → n < bits z → execute h (Bitfield z Ubfm ((bits z - n) % bits z) (bits z - 1 - n) rn rd) s ≡ done (withX rd (R z s rn * 2 ^ n % 2 ^ bits z) s)
-  unfolding execute
-  exec-lsl-imm z n rn rd l = ap (λ v. done (withX rd v s)) (lsl-is z n (R z s rd) (R z s rn) l (R-lt z s rn))
-
-  -- ---- one, two and three sources, and the conditional select
-  pub exec-one : (o : One) (rn rd : ℕ) → execute h (OneSource o rn rd) s ≡ done (withX rd (one o (R W s rn)) s)
-  unfolding execute
-  exec-one o rn rd = refl
-
-  pub exec-two : (z : Size) (o : Two) (rm rn rd : ℕ) → execute h (TwoSource z o rm rn rd) s ≡ done (withX rd (two z o (R z s rn) (R z s rm)) s)
-  unfolding execute
-  exec-two z o rm rn rd = refl
-
-  pub exec-mul : (rm rn rd : ℕ) → length (s .x) ≡ 31 → execute h (ThreeSource Madd rm 31 rn rd) s ≡ done (withX rd (R W s rn * R W s rm % 2 ^ 32) s)
-  unfolding execute
-  exec-mul rm rn rd e = ap (λ v. done (withX rd v s)) (ap (λ c. three Madd c (R W s rn) (R W s rm)) (R-31 W s e) ∙ mul-is (R W s rn) (R W s rm))
-
-  pub exec-msub : (rm ra rn rd : ℕ) → execute h (ThreeSource Msub rm ra rn rd) s ≡ done (withX rd ((R W s ra + (2 ^ 32 - R W s rn * R W s rm % 2 ^ 32)) % 2 ^ 32) s)
-  unfolding execute
-  exec-msub rm ra rn rd = ap (λ v. done (withX rd v s)) (msub-is (R W s ra) (R W s rn * R W s rm) (R-lt W s ra))
-
-  pub exec-csel : (z : Size) (o : Select) (rm k rn rd : ℕ) → execute h (CondSelect z o rm k rn rd) s
-      ≡ done (withX rd (cond (ConditionHolds k (s .nzcv)) (R z s rn) (otherwise z o (R z s rm))) s)
-  unfolding execute
-  exec-csel z o rm k rn rd = refl

@@ -1,7 +1,7 @@
 -- The code as words: what is fetched, decoded and stepped over.
 --     read-word, read-literal      a word of the code's bytes, and two words as 64 bits
 --     fetch-ok                     the word at the program counter
---     instruction-ok, instruction-encode     its instruction; encode-lt: an instruction's word is below 2 ^ 32
+--     instruction-ok               its instruction; encode-lt: an instruction's word is below 2 ^ 32
 --     step-ok                      a step executes the instruction that the word at the program counter decodes to
 --     exec-literal-ok              a literal's load gives the two words at its place
 --     run-next, run-add, run-more     a run goes on after a step, is one run after another, and stays as it is where it left
@@ -22,7 +22,7 @@ use Rattle.arm.specs.Instr.{format, class, operands, encode, Carried}
 use Rattle.arm.specs.Fields.{total}
 use Rattle.arm.specs.Decode.{both, valid, decode}
 use Rattle.arm.proofs.Pieces.{sound, pack-lt, both-left, both-right}
-use Rattle.arm.proofs.RoundTrip.{decode-encode, decode-sound}
+use Rattle.arm.proofs.RoundTrip.{decode-sound}
 use Rattle.machine.specs.Isa.{Instr, LoadLiteral}
 use Rattle.machine.specs.Bits.{byte}
 use Rattle.machine.specs.State.{Region, State, code, withX}
@@ -140,9 +140,6 @@ decode-lt w i e = subst (λ v. v < 2 ^ 32) (decode-sound w i e .word) (encode-lt
 pub instruction-ok : (w : ℕ) (i : Instr) → decode w ≡ valid i → hasEncoder i ≡ true → instruction w ≡ some i
 unfolding instruction
 instruction-ok w i e q = ap encoded e ∙ rw q
-
-pub instruction-encode : (i : Instr) → Carried i → hasEncoder i ≡ true → instruction (encode i) ≡ some i
-instruction-encode i h q = instruction-ok (encode i) i (decode-encode i h) q
 
 -- ---- a step
 pub step-ok : (h : Helpers) (s : State) (ws : List ℕ) (k : ℕ) (i : Instr) → bytesOf (s .mem) code ≡ bytesOfWords ws → s .pc ≡ baseOf (s .mem) code + 4 * k → k < length ws

@@ -2,7 +2,6 @@
 --     eq-means, ne-means                       a and b are equal, or not (64 bits too, as the next four)
 --     hs-means, lo-means, hi-means, ls-means   unsigned order
 --     ge-means, lt-means, gt-means, le-means   signed order, of the numbers moved up by 2 ^ 31 (`biased`)
---     ge-signed, lt-signed, gt-signed, le-signed     the same, of the integers that they stand for
 --     tst-eq, tst-ne                           after TST: the result is zero, or not
 -- Assumes nothing.
 use mathlib.Core.Path.{_≡_, refl, sym, ap, ap₂, _∙_}
@@ -12,7 +11,7 @@ use native.Mathlib.Omega.{arith}
 use borrow.Author.Tests.{ltb-true, ltb-false, leb-true, leb-false, eqb-true, eqb-false, lt-ltb, le-ltb, le-leb, lt-leb, eq-eqb, ne-eqb}
 use lib.Dec.{leb, ltb, eqb}
 use lib.IntN.{ℤ, pos, negsuc, subℕ, _+ℤ_}
-use lib.Signed.{mag, leZ, ltZ}
+use lib.Signed.{mag, leZ}
 use Rattle.arm.specs.Instr.{bits}
 use Rattle.machine.specs.Isa.{Size, W, X}
 use Rattle.machine.specs.Bits.{bit, SInt, NOT, sameℤ, Nzcv, AddWithCarry, ConditionHolds}
@@ -280,26 +279,6 @@ module _ (a b : ℕ) (ha : a < 2 ^ 32) (hb : b < 2 ^ 32) where
     where
       same-leb : (a b c d : ℕ) → (c ≤ d → a ≤ b) → (d < c → b < a) → leb a b ≡ leb c d
       same-leb a b c d f g = test (leb c d) (λ e. rw (e, le-leb a b (f (leb-true c d e)))) (λ e. rw (e, lt-leb a b (g (leb-false c d e))))
-
--- ---- signed order, of the integers
-ltZ-is : (x y : ℤ) → ltZ x y ≡ not (leZ y x)
-ltZ-is (pos a) (pos b) = sym (not-leb a b)
-ltZ-is (pos a) (negsuc b) = refl
-ltZ-is (negsuc a) (pos b) = refl
-ltZ-is (negsuc a) (negsuc b) = sym (not-leb b a)
-
-module _ (a b : ℕ) (ha : a < 2 ^ 32) (hb : b < 2 ^ 32) where
-  pub ge-signed : ConditionHolds 10 (compared W a b) ≡ leZ (SInt 32 b) (SInt 32 a)
-  ge-signed = ge-means a b ha hb ∙ sym (biased-signed b a hb ha)
-
-  pub lt-signed : ConditionHolds 11 (compared W a b) ≡ ltZ (SInt 32 a) (SInt 32 b)
-  lt-signed = lt-means a b ha hb ∙ sym (not-leb (biased a) (biased b)) ∙ ap not (sym (biased-signed b a hb ha)) ∙ sym (ltZ-is (SInt 32 a) (SInt 32 b))
-
-  pub gt-signed : ConditionHolds 12 (compared W a b) ≡ ltZ (SInt 32 b) (SInt 32 a)
-  gt-signed = gt-means a b ha hb ∙ sym (not-leb (biased b) (biased a)) ∙ ap not (sym (biased-signed a b ha hb)) ∙ sym (ltZ-is (SInt 32 b) (SInt 32 a))
-
-  pub le-signed : ConditionHolds 13 (compared W a b) ≡ leZ (SInt 32 a) (SInt 32 b)
-  le-signed = le-means a b ha hb ∙ sym (biased-signed a b ha hb)
 
 -- ---- after TST
 pub tst-eq : (z : Size) (r : ℕ) → ConditionHolds 0 (testFlags z r) ≡ eqb r 0

@@ -6,10 +6,8 @@ pub mod Flags
 pub mod Numbers
 pub mod Values
 pub mod Data
-pub mod Moves
 pub mod Access
 pub mod Control
-pub mod Calls
 pub mod Keeps
 pub mod Placed
 pub mod Fetch

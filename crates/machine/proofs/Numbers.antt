@@ -1,23 +1,18 @@
 -- The pseudocode's functions on numbers, as arithmetic.
 --     sign-low, sign-high, sign-back      SignExtend, where the sign is clear, is set, and of a number as 2 ^ M - d
---     asr-low, asr-high                   ASR
 --     lsl-zero, lsl-field                 LSL by nothing, and the bits that it keeps
 --     add-is, sub-is                      the result of AddWithCarry
---     msub-is                             a difference as 32 bits
 --     words-forward                       a branch's field that does not point back
 -- Assumes nothing.
-use mathlib.Core.Path.{_≡_, refl, sym, ap, _∙_, subst}
-use mathlib.Core.Bool.{Bool, true, false}
-use Prim.Native.Nat.{ℕ, zero, suc, _+_, _-_, _*_, _/_, _%_, _^_, _≤_, _<_}
+use mathlib.Core.Path.{_≡_, sym, ap, _∙_, subst}
+use mathlib.Core.Bool.{true, false}
+use Prim.Native.Nat.{ℕ, _+_, _-_, _*_, _/_, _%_, _^_, _≤_, _<_}
 use native.Mathlib.Nat.{div-eq-of-lt, div-eq-of-lt-le, mul-mod-left}
 use native.Mathlib.Omega.{arith}
-use borrow.Author.Tests.{ltb-true, ltb-false}
-use lib.Dec.{ltb}
-use lib.IntN.{pos, subℕ, _-ℤ_}
-use lib.Pow.{pow-add, pow-mono, shl-lt, shr-lt, shr-mono, shl-shr, mod-pow-add}
+use lib.Pow.{pow-add, pow-mono, shl-lt, shl-shr, mod-pow-add}
 use Rattle.arm.specs.Instr.{bits}
 use Rattle.machine.specs.Isa.{Size, W, X}
-use Rattle.machine.specs.Bits.{toBits, SignExtend, NOT, LSL, ASR, AddWithCarry}
+use Rattle.machine.specs.Bits.{SignExtend, NOT, LSL, AddWithCarry}
 use Rattle.machine.specs.Execute.{words}
 
 -- ---- SignExtend
@@ -42,21 +37,6 @@ sign-back M N d p l h k =
     sign-high M N (2 ^ M - d) (omega arith) (omega arith) ∙ omega arith
 
 -- ---- shifts
-pub asr-low : (N x n : ℕ) → n < N → x < 2 ^ (N - 1) → ASR N x n ≡ x / 2 ^ n
-asr-low N x n l h =
-    let e : N - 1 ≡ N - n - 1 + n = omega arith in
-    sign-low (N - n) N (x / 2 ^ n) (shr-lt (N - n - 1) n (subst (λ k. x < 2 ^ k) e h))
-
-pub asr-high : (N x n : ℕ) → n < N → 2 ^ (N - 1) ≤ x → x < 2 ^ N → ASR N x n ≡ x / 2 ^ n + (2 ^ N - 2 ^ (N - n))
-asr-high N x n l h k =
-    let e : N - 1 ≡ N - n - 1 + n = omega arith in
-    let f : N ≡ N - n + n = omega arith in
-    let a : 2 ^ (N - n - 1) * 2 ^ n ≤ x = subst (λ p. p ≤ x) (ap (λ k. 2 ^ k) e ∙ pow-add 2 (N - n - 1) n) h in
-    let b : 2 ^ (N - n - 1) * 2 ^ n / 2 ^ n ≤ x / 2 ^ n = shr-mono n a in
-    let c : 2 ^ (N - n - 1) ≤ x / 2 ^ n = subst (λ p. p ≤ x / 2 ^ n) (shl-shr (2 ^ (N - n - 1)) n) b in
-    let d : x / 2 ^ n < 2 ^ (N - n) = shr-lt (N - n) n (subst (λ k. x < 2 ^ k) f k) in
-    sign-high (N - n) N (x / 2 ^ n) c (subst (λ p. x / 2 ^ n < p) (double (N - n) (omega arith)) d)
-
 pub lsl-zero : (z : Size) (x : ℕ) → x < 2 ^ bits z → LSL (bits z) x 0 ≡ x
 lsl-zero W x h = omega arith
 lsl-zero X x h = omega arith
@@ -77,15 +57,6 @@ add-is N a b = ap (λ k. k % 2 ^ N) (omega arith)
 pub sub-is : (N a b : ℕ) → b < 2 ^ N → AddWithCarry N a (NOT N b) true .result ≡ (a + (2 ^ N - b)) % 2 ^ N
 unfolding AddWithCarry
 sub-is N a b h = ap (λ k. k % 2 ^ N) (omega arith)
-
-pub msub-is : (c p : ℕ) → c < 2 ^ 32 → toBits 32 (pos c -ℤ pos p) ≡ (c + (2 ^ 32 - p % 2 ^ 32)) % 2 ^ 32
-msub-is c zero h = omega arith
-msub-is c (suc p) h =
-    go (ltb c (suc p)) refl
-  where
-    go : (t : Bool) → ltb c (suc p) ≡ t → toBits 32 (subℕ c (suc p)) ≡ (c + (2 ^ 32 - suc p % 2 ^ 32)) % 2 ^ 32
-    go true e = let l : c < suc p = ltb-true c (suc p) e in rw e (omega arith)
-    go false e = let l : suc p ≤ c = ltb-false c (suc p) e in rw e (omega arith)
 
 -- ---- fields of branches
 pub words-forward : (k imm : ℕ) → 0 < k → imm < 2 ^ (k - 1) → words k imm ≡ imm * 4

@@ -1,15 +1,14 @@
 -- The registers after a write, and after a helper call.
---     R-same, R-fits, R-other     register n holds what was written to it, and the others what they held
+--     R-same, R-other        register n holds what was written to it, and the others what they held
 --     R-31, withX-31         register 31 is zero and keeps nothing
 --     R-lt, W-of-X           a view is below two to its width; W is the low half of X
---     length-withX           there are as many registers as before
 --     kept, x0-called, answer     a helper call keeps registers 19 to 29, and answers in W0
 -- Assumes nothing.
 use mathlib.Core.Path.{_≡_, refl, ap, _∙_}
 use mathlib.Core.Logic.{_≢_}
 use mathlib.Core.List.{List}
 use Prim.Native.Nat.{ℕ, zero, suc, _%_, _^_, _≤_, _<_}
-use native.Mathlib.Nat.{mod-lt, mod-eq-of-lt}
+use native.Mathlib.Nat.{mod-lt}
 use native.Mathlib.Omega.{arith}
 use lib.ListN.{length, getD, set, length-set, List·getD-eq-default}
 use lib.Pow.{pow-pos, mod-mod-pow}
@@ -23,10 +22,6 @@ use Rattle.machine.specs.Execute.{overwritten, answered, called}
 pub R-same : (z : Size) (n v : ℕ) (s : State) → n < length (s .x) → R z (withX n v s) n ≡ v % 2 ^ bits z
 R-same z n v s h = ap (λ k. k % 2 ^ bits z) (getD-set-same (s .x) n v 0 h)
 
--- a number that fits
-pub R-fits : (z : Size) (n v : ℕ) (s : State) → n < length (s .x) → v < 2 ^ bits z → R z (withX n v s) n ≡ v
-R-fits z n v s h l = R-same z n v s h ∙ mod-eq-of-lt l
-
 pub R-other : (z : Size) (n v : ℕ) (s : State) (m : ℕ) → m ≢ n → R z (withX n v s) m ≡ R z s m
 R-other z n v s m h = ap (λ k. k % 2 ^ bits z) (getD-set-other (s .x) n m v 0 h)
 
@@ -36,9 +31,6 @@ R-31 X s h = ap (λ k. k % 2 ^ 64) (List·getD-eq-default (s .x) 0 {n = 31} (ome
 
 pub withX-31 : (v : ℕ) (s : State) → length (s .x) ≡ 31 → withX 31 v s ≡ s
 withX-31 v s h = ap (λ l. record { x = l; sp = s .sp; nzcv = s .nzcv; pc = s .pc; mem = s .mem; outcomes = s .outcomes; requests = s .requests; count = s .count }) (set-out (s .x) 31 v (omega arith))
-
-pub length-withX : (n v : ℕ) (s : State) → length (withX n v s .x) ≡ length (s .x)
-length-withX n v s = length-set (s .x) n v
 
 -- ---- the views
 pub R-lt : (z : Size) (s : State) (n : ℕ) → R z s n < 2 ^ bits z

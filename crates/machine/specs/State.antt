@@ -13,7 +13,7 @@ pub record Region : Type 0 where
   pub base : ℕ
   pub bytes : List ℕ
 
--- "A read request is address, width and done count plus the operation's position; a write request adds all 32 bits of the value"
+-- "A read request is address .., width and done count plus the operation's position; a write request adds all 32 bits of the value"
 pub data Request : Type 0 where
   read : (address width done : ℕ) → Request
   write : (address width done value : ℕ) → Request

@@ -15,7 +15,7 @@ use Rattle.block.specs.declared.Addresses.{Addresses}
 use Rattle.block.specs.Block.{bytes}
 use Rattle.code.specs.Items.{b, bCond, cb, ldr, label, literal, go, bind}
 use Rattle.code.specs.Tree.{Depth, under, Var, inner, outer, Code, code, block, _then_, inside, nowhere}
-use Rattle.code.specs.Lent.{calls, nextL}
+use Rattle.code.specs.Calls.{calls, nextL}
 use Rattle.lowering.specs.declared.RegCache.{RegCache}
 use Rattle.lowering.specs.Cache.{flush, reload}
 use Rattle.lowering.specs.Instrs.{CTX, RAM, XIP, FLAGS, DONE, HI, mov, movX, mov32, addI, sub, cmp, lsrI, indexed, blr}

@@ -17,12 +17,13 @@ use Rattle.block.specs.declared.Layout.{Layout}
 use Rattle.block.specs.declared.Block.{Block}
 use Rattle.block.specs.Block.{opsOf}
 use Rattle.block.specs.Checked.{Place, Apart, LayoutFits, RegionFits, MemoryFits, AddressesFit, BOpFits, OpsFit, NoneAfterJump, Checked}
+use Rattle.operands.proofs.Laws.{then-zero, gives-zero, not-true, or-false-both}
+use Rattle.operands.proofs.Contents.{Contents}
+use Rattle.operands.proofs.Fitting.{fast-fits}
 use Rattle.record.specs.Record.{_gives_, byteAt, num16, num32, num64, payloadLength, payload, Span, span, spans, any, far, unaligned, meets}
 use Rattle.record.specs.Record.{overlap, layoutOf, layoutFault, memoryOf, regionFault, memoryFault, addressesOf, startFault, operationOf, lastJumps, operationFault, Reading, Accepted, accepted}
 use Rattle.record.specs.Record.{refused, refusedOr, push, endOr, operations, header, fieldFault, layoutField, memoryField, addressesField, startField, reading}
-use Rattle.record.proofs.Laws.{then-zero, gives-zero, not-true, or-false-both}
-use Rattle.record.proofs.Steps.{Contents, good}
-use Rattle.record.proofs.Fitting.{fast-fits}
+use Rattle.record.proofs.Steps.{good}
 
 -- ---- bytes and the numbers made of them
 

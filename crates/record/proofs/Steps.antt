@@ -4,184 +4,22 @@ use mathlib.Core.Bool.{Bool, true, false, not}
 use mathlib.Core.List.{List, [], _∷_}
 use Prim.Native.Nat.{ℕ, zero, suc, _+_, _*_, _-_, _<_, _≤_}
 use native.Mathlib.Omega.{arith}
-use native.Mathlib.Nat.{not-suc-le-zero, le-of-suc-le-suc}
 use native.Mathlib.Numerals.{add-one}
-use borrow.Author.Tests.{ltb-false, leb-false, eqb-true, le-leb, lt-leb}
-use lib.Dec.{leb, ltb, eqb}
+use borrow.Author.Tests.{leb-false, le-leb, lt-leb}
+use lib.Dec.{leb, eqb}
 use lib.ListN.{length, getD, set, length-set}
 use lib.Seq.{getD-set-same}
 use Rattle.block.specs.declared.BOp.{BOp}
 use Rattle.block.specs.declared.Block.{Block}
-use Rattle.block.specs.Block.{kindOf, mayJump}
-use Rattle.record.specs.Kinds.{Kind, kinds, kindAt, fastOf}
-use Rattle.record.specs.Record.{_gives_, byteAt, payloadLength, payload, cut, operandsFit, operands, contentsFault, operationOf, nop, lastJumps, operationFault, Answer, Refused, Reading, accepted, empty, refused, refusedOr, push, operations}
-use Rattle.record.specs.declared.operations.Operation.the-variants.{Fault, Good}
-use Rattle.record.specs.Rows.{judged}
-use Rattle.record.proofs.Laws.{Whole, not-cut, payload-head, then-zero, gives-zero, not-true}
-
--- ---- a kind's number
-
-abbrev Numbered : ℕ → List Kind → Type 0
-Numbered i [] = Unit {0}
-Numbered i (r ∷ rs) = ((x : ℕ → ℕ) → kindOf (r .fast x) ≡ i) × Numbered (suc i) rs
-
--- each row makes an operation of its own number
-numbered : Numbered 0 kinds
-numbered = (
-  λ x. refl,
-  (
-    λ x. refl,
-    (
-      λ x. refl,
-      (
-        λ x. refl,
-        (
-          λ x. refl,
-          (
-            λ x. refl,
-            (
-              λ x. refl,
-              (
-                λ x. refl,
-                (
-                  λ x. refl,
-                  (
-                    λ x. refl,
-                    (
-                      λ x. refl,
-                      (
-                        λ x. refl,
-                        (
-                          λ x. refl,
-                          (
-                            λ x. refl,
-                            (
-                              λ x. refl,
-                              (
-                                λ x. refl,
-                                (
-                                  λ x. refl,
-                                  (
-                                    λ x. refl,
-                                    (
-                                      λ x. refl,
-                                      (
-                                        λ x. refl,
-                                        (
-                                          λ x. refl,
-                                          (
-                                            λ x. refl,
-                                            (
-                                              λ x. refl,
-                                              (
-                                                λ x. refl,
-                                                (
-                                                  λ x. refl,
-                                                  (
-                                                    λ x. refl,
-                                                    (
-                                                      λ x. refl,
-                                                      (
-                                                        λ x. refl,
-                                                        (
-                                                          λ x. refl,
-                                                          (
-                                                            λ x. refl,
-                                                            (
-                                                              λ x. refl,
-                                                              (
-                                                                λ x. refl,
-                                                                (
-                                                                  λ x. refl,
-                                                                  (
-                                                                    λ x. refl,
-                                                                    (
-                                                                      λ x. refl,
-                                                                      (
-                                                                        λ x. refl,
-                                                                        (
-                                                                          λ x. refl,
-                                                                          (
-                                                                            λ x. refl,
-                                                                            (
-                                                                              λ x. refl,
-                                                                              (
-                                                                                λ x. refl,
-                                                                                tt,
-                                                                              ),
-                                                                            ),
-                                                                          ),
-                                                                        ),
-                                                                      ),
-                                                                    ),
-                                                                  ),
-                                                                ),
-                                                              ),
-                                                            ),
-                                                          ),
-                                                        ),
-                                                      ),
-                                                    ),
-                                                  ),
-                                                ),
-                                              ),
-                                            ),
-                                          ),
-                                        ),
-                                      ),
-                                    ),
-                                  ),
-                                ),
-                              ),
-                            ),
-                          ),
-                        ),
-                      ),
-                    ),
-                  ),
-                ),
-              ),
-            ),
-          ),
-        ),
-      ),
-    ),
-  ),
-)
-
-number-from : (i : ℕ) (rs : List Kind) (d : Kind) → Numbered i rs → (k : ℕ) → k < length rs → (x : ℕ → ℕ) → kindOf (getD rs k d .fast x) ≡ i + k
-number-from i [] d h k l x = absurd (not-suc-le-zero l)
-number-from i (r ∷ rs) d h zero l x = h .0 x ∙ omega arith
-number-from i (r ∷ rs) d h (suc k) l x =
-    let e : kindOf (getD rs k d .fast x) ≡ suc i + k = number-from (suc i) rs d (h .1) k (le-of-suc-le-suc l) x in
-    e ∙ omega arith
-
-pub kind-number : (k : ℕ) (xs : List ℕ) → k < 40 → kindOf (fastOf k xs) ≡ k
-kind-number k xs h = number-from 0 kinds _ numbered k h (λ i. getD xs i 0) ∙ omega arith
+use Rattle.block.specs.Block.{mayJump}
+use Rattle.operands.specs.declared.Operation.the-variants.{Fault, Good}
+use Rattle.operands.specs.Rows.{judged}
+use Rattle.operands.proofs.Laws.{then-zero, gives-zero}
+use Rattle.operands.proofs.Contents.{Contents, contents-of, jumps}
+use Rattle.record.specs.Record.{_gives_, byteAt, payloadLength, payload, cut, operationOf, nop, lastJumps, operationFault, Answer, Refused, Reading, accepted, empty, refused, refusedOr, push, operations}
+use Rattle.record.proofs.Laws.{Whole, not-cut, payload-head}
 
 -- ---- an operation without a fault
-
-pub record Contents (p : List ℕ) : Type 0 where
-  pub long : 3 ≤ length p
-  pub kind : byteAt p 0 < 40
-  pub size : length p ≡ 3 + 4 * length (kindAt (byteAt p 0) .operands)
-  pub glue : byteAt p 2 ≤ 1
-  pub fit : operandsFit (kindAt (byteAt p 0) .operands) p 0 ≡ true
-
-pub contents : (p : List ℕ) → contentsFault p ≡ 0 → Contents p
-unfolding contentsFault
-contents p e =
-    let a = then-zero (ltb (length p) 3 gives 2) _ e in
-    let b = then-zero (leb (length kinds) (byteAt p 0) gives 3) _ (a .1) in
-    let c = then-zero (not (eqb (length p) (3 + 4 * length (kindAt (byteAt p 0) .operands))) gives 2) _ (b .1) in
-    let d = then-zero (ltb 1 (byteAt p 2) gives 4) _ (c .1) in
-    record {
-      long = ltb-false (length p) 3 (gives-zero _ 1 (a .0));
-      kind = leb-false (length kinds) (byteAt p 0) (gives-zero _ 2 (b .0));
-      size = eqb-true _ _ (not-true _ (gives-zero _ 1 (c .0)));
-      glue = ltb-false 1 (byteAt p 2) (gives-zero _ 3 (d .0));
-      fit = not-true _ (gives-zero _ 3 (d .1));
-    }
 
 pub record Good-at (s : List ℕ) (at n : ℕ) (jumped : Bool) : Type 0 where
   pub whole : Whole s at (payloadLength s at)
@@ -200,13 +38,8 @@ good s at n jumped e =
       whole = not-cut s at (gives-zero _ 0 (a .0));
       room = leb-false 32 n (gives-zero _ 7 (c .0));
       before = gives-zero _ 8 (d .0);
-      contents = contents (payload s at) (d .1);
+      contents = contents-of (payload s at) (d .1);
     }
-
--- "Kinds 30 to 39 jump."
-pub jumps : (p : List ℕ) → byteAt p 0 < 40 → leb 30 (byteAt p 0) ≡ mayJump (operationOf p .fast)
-unfolding operationOf
-jumps p h = ap (leb 30) (sym (kind-number (byteAt p 0) (operands p) h))
 
 -- ---- one more step
 

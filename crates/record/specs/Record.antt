@@ -1,8 +1,9 @@
 -- Reading a block record, from document 01's "The block record" and "Faults, in order": the checked block, or the number and place of
 -- the first fault. A fault's number is 0 where there is none.
+use mathlib.Core.Path.{_≡_}
 use mathlib.Core.Bool.{Bool, true, false, not, _&&_, _||_}
 use mathlib.Core.List.{List, [], _∷_}
-use Prim.Native.Nat.{ℕ, zero, suc, _+_, _*_, _%_}
+use Prim.Native.Nat.{ℕ, zero, suc, _+_, _%_, _≤_}
 use lib.Dec.{leb, ltb, eqb}
 use lib.ListN.{length, getD, take, drop, set, replicate}
 use Rattle.block.specs.declared.Fast.the-variants.{Nop}
@@ -12,36 +13,14 @@ use Rattle.block.specs.declared.Memory.{Memory}
 use Rattle.block.specs.declared.Addresses.{Addresses}
 use Rattle.block.specs.declared.Block.{Block}
 use Rattle.block.specs.Block.{mayJump}
-use Rattle.record.specs.Kinds.{Class, fits, flagOf, kinds, kindAt, fastOf}
+use Rattle.operands.specs.Kinds.{flagOf}
+pub use Rattle.operands.specs.Numbers.{byteAt}
+unfoldable pub use Rattle.operands.specs.Numbers.{num16, num32, num64}
+pub use Rattle.operands.specs.Operation.{_gives_, _then_}
+unfoldable pub use Rattle.operands.specs.Operation.{contentsFault, operationOf}
 pub use Rattle.record.specs.declared.Answer.{Answer}
 pub use Rattle.record.specs.declared.Answer.the-variants.{Accepted, Refused}
 pub use Rattle.record.specs.declared.Reading.{Reading}
-
--- ---- numbers, little-endian; a byte beyond the end counts as 0
-
-abbrev pub byteAt : List ℕ → ℕ → ℕ
-byteAt s i = getD s i 0
-
-unfoldable pub num16 : List ℕ → ℕ → ℕ
-num16 s i = byteAt s i + 256 * byteAt s (i + 1)
-
-unfoldable pub num32 : List ℕ → ℕ → ℕ
-num32 s i = num16 s i + 65536 * num16 s (i + 2)
-
-unfoldable pub num64 : List ℕ → ℕ → ℕ
-num64 s i = num32 s i + 4294967296 * num32 s (i + 4)
-
--- ---- faults, the first that holds
-
-infix 60 _gives_
-abbrev pub _gives_ : Bool → ℕ → ℕ
-true gives n = n
-false gives n = 0
-
-infixr 50 _then_
-abbrev pub _then_ : ℕ → ℕ → ℕ
-zero then m = m
-suc n then m = suc n
 
 -- ---- a field: "a one-byte tag, a two-byte length, a payload"
 
@@ -131,31 +110,7 @@ addressesOf p = record { «h_read» = num64 p 0; «h_write» = num64 p 8; table 
 unfoldable pub startFault : ℕ → ℕ
 startFault a = (ltb a 0x02000000 || ltb 0x03ffffff a) gives 7
 
--- ---- field 05: kind, guest length, glue, operands
-
-abbrev pub operand : List ℕ → ℕ → ℕ
-operand p i = num32 p (3 + 4 * i)
-
--- the operands of a payload; no kind has more than six
-abbrev pub operands : List ℕ → List ℕ
-operands p = operand p 0 ∷ operand p 1 ∷ operand p 2 ∷ operand p 3 ∷ operand p 4 ∷ operand p 5 ∷ []
-
--- the operands from the i-th on, left to right
-abbrev pub operandsFit : List Class → List ℕ → ℕ → Bool
-operandsFit [] p i = true
-operandsFit (c ∷ cs) p i = fits c (operand p i) && operandsFit cs p (suc i)
-
--- kind, length, glue, operands
-unfoldable pub contentsFault : List ℕ → ℕ
-contentsFault p =
-    ltb (length p) 3 gives 2
-    then leb (length kinds) (byteAt p 0) gives 3
-    then not (eqb (length p) (3 + 4 * length (kindAt (byteAt p 0) .operands))) gives 2
-    then ltb 1 (byteAt p 2) gives 4
-    then not (operandsFit (kindAt (byteAt p 0) .operands) p 0) gives 4
-
-unfoldable pub operationOf : List ℕ → BOp
-operationOf p = record { fast = fastOf (byteAt p 0) (operands p); len = byteAt p 1; glue = flagOf (byteAt p 2) }
+-- ---- field 05: its contents stand in crates/operands/specs/Operation.antt
 
 -- what fills the places behind the operations
 abbrev pub nop : BOp
@@ -253,7 +208,7 @@ reading s =
     (refusedOr (startField s) 70
     (operations 33 s 77 (header s)))))
 
--- ---- the answer in this paper's numbers: 0 where the record is accepted
+-- ---- the answer in this paper's numbers: a fault's number and place, 0 and 0 where the record is accepted
 
 abbrev pub numberOf : Answer → ℕ
 numberOf Accepted = 0
@@ -262,3 +217,11 @@ numberOf (Refused number place) = number
 abbrev pub placeOf : Answer → ℕ
 placeOf Accepted = 0
 placeOf (Refused number place) = place
+
+-- number and place tell the answer: 0 says that the record is accepted; a fault is one of 1 to 9, at a byte of the record or at its end
+pub record Told (s : List ℕ) (a : Answer) : Type 0 where
+  pub number : numberOf a ≡ numberOf (reading s .answer)
+  pub place : placeOf a ≡ placeOf (reading s .answer)
+  pub accepted : numberOf a ≡ 0 → a ≡ Accepted
+  pub known : numberOf a ≤ 9
+  pub inside : placeOf a ≤ length s

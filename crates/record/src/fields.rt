@@ -3,13 +3,13 @@ ghost use mathlib.Core.Path.{_≡_};
 ghost use Prim.Native.Nat.{_+_, _≤_, _<_};
 ghost use lib.ListN.{length};
 ghost use Rattle.record.specs.Record.{cut as isCut, fieldFault, layoutOf, spans, span, any, far as isFar, unaligned, meets, overlap as overlapping, layoutFault, layoutField, memoryOf, regionFault, memoryFault, memoryField, addressesOf, addressesField, startFault, startField};
-use crate::numbers::byte;
-use crate::numbers::get16;
-use crate::numbers::get32;
-use crate::numbers::get64;
 use block::Addresses;
 use block::Layout;
 use block::Memory;
+use operands::byte;
+use operands::get16;
+use operands::get32;
+use operands::get64;
 
 // Header or payload of the field at `at` cut, or the field missing.
 pub fn cut(s: &[u8], at: usize) -> bool

@@ -3,11 +3,9 @@ ghost use mathlib.Core.Path.{_≡_};
 ghost use Prim.Native.Nat.{_+_, _≤_, _<_};
 ghost use lib.ListN.{length};
 ghost use Rattle.block.specs.Checked.{Checked};
-ghost use Rattle.record.specs.Record.{Accepted, empty, fieldFault, refused as refusedAt, header as headerOf, operations as operationsOf, reading};
+ghost use Rattle.record.specs.Record.{Accepted, empty, fieldFault, refused as refusedAt, header as headerOf, operations as operationsOf, reading, Told};
 
 mod fields;
-mod kinds;
-mod numbers;
 mod operations;
 
 use crate::fields::addresses_field;
@@ -17,10 +15,6 @@ use crate::fields::layout_of;
 use crate::fields::memory_field;
 use crate::fields::memory_of;
 use crate::fields::start_field;
-use crate::numbers::byte;
-use crate::numbers::get16;
-use crate::numbers::get32;
-use crate::operations::Operation;
 use crate::operations::read_operation;
 use block::Addresses;
 use block::BOp;
@@ -28,6 +22,10 @@ use block::Block;
 use block::Fast;
 use block::Layout;
 use block::Memory;
+use operands::Operation;
+use operands::byte;
+use operands::get16;
+use operands::get32;
 
 // What reading finds: a checked block, or a fault by number and place.
 pub enum Answer {
@@ -137,6 +135,7 @@ fn read_operations(s: &[u8], b: Block) -> Reading
 pub fn read(s: &[u8]) -> Reading
     ensures { λ r. ⌜ r ≡ reading (now (s .entry)) ⌝ }
     ensures { λ r. ⌜ (r .answer ≡ Accepted → Checked (r .block)) ⌝ }
+    ensures { λ r. ⌜ Told (now (s .entry)) (r .answer) ⌝ }
 {
     let layout = layout_field(s);
     if layout != 0 {

@@ -1,7 +1,7 @@
 -- Loads and stores of a block, each as one equation of `exec`.
 --     ldr-at, ldrX-at, str-at, strX-at            at a register's address and an offset
 --     indexed-load, indexed-signed, indexed-store     at a register's address and another's number
---     apart-now, reg-now, at-now                  the regions while a block runs: those at the body
+--     apart-now, reg-now                          the regions while a block runs: those at the body
 --     ldr-now, str-now, strX-now                  at an address register of the body
 use mathlib.Core.Path.{_≡_, sym, ap, ap₂, _∙_, subst}
 use mathlib.Core.Bool.{true}

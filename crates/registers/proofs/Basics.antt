@@ -2,7 +2,7 @@
 --     test, upd-same, upd-other           tests with their facts, and functions with one value changed
 --     cls-ne, host-cls, host-inj          what the host registers serve for
 --     View, sim-view, view-sim            the relation over any slots; that of a register cache
---     kept-to, view-to                    what of the state the relation is about
+--     kept-to                             what of the state the relation is about
 --     put, put-some, put-none             a temporary is written
 use mathlib.Core.Path.{_≡_, refl, sym, ap, _∙_, subst, fun-ext}
 use mathlib.Core.Logic.{_≢_}
@@ -180,9 +180,6 @@ module _ {b : Block} {s0 : State} {rc : RegCache} where
 
   pub sim-flags : {a : Abs} {s : State} → Sim b s0 rc a s → (f : Nzcv) (o : Option Nzcv) → ((u : Nzcv) → o ≡ some u → f ≡ u) → Sim b s0 rc (record { c = a .c; t = a .t; f = o }) (withFlags f s)
   sim-flags w f o h = sim-view (w .slots) (view-flags (view-sim w) f o h)
-
-  pub sim-put : {a : Abs} {s : State} → Sim b s0 rc a s → (k v : ℕ) (o : Option ℕ) → cls k ≡ 0 → ((u : ℕ) → o ≡ some u → v % 2 ^ 32 ≡ u) → Sim b s0 rc (withTemp k o a) (withX k v s)
-  sim-put w k v o q h = sim-view (w .slots) (put (view-sim w) k v o q h)
 
   pub sim-put-some : {a : Abs} {s : State} → Sim b s0 rc a s → (k v u : ℕ) → cls k ≡ 0 → v % 2 ^ 32 ≡ u → Sim b s0 rc (withTemp k (some u) a) (withX k v s)
   sim-put-some w k v u q h = sim-view (w .slots) (put-some (view-sim w) k v u q h)

@@ -1,7 +1,7 @@
 -- The register cache: which slot a lookup gives, and what the slots and the homes hold of the guest registers.
 --     held-slot, free-slot                                       lookups
---     slots-touch, slots-assign, slots-mark, slots-seated, slots-stored     the eight slots after a use
---     cached-clean, cached-marks, cached-same, cached-free       other marks, other slots
+--     slots-touch, slots-assign, slots-mark                      the eight slots after a use
+--     cached-clean, cached-marks, cached-same                    other marks, other slots
 --     cached-spill, cached-put                                   a slot is stored; a slot is given to a register
 use mathlib.Core.Path.{_≡_, refl, sym, ap, _∙_, fun-ext}
 use mathlib.Core.Logic.{_≢_}

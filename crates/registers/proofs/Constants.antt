@@ -1,6 +1,6 @@
 -- Constants and sums in temporaries.
---     exec-movz32, mov32-does, mov32-frag     a 32-bit constant in a register
---     Below, view-below                       fewer temporaries are known
+--     exec-movz32, mov32-frag                 a 32-bit constant in a register
+--     Below, sim-below                        fewer temporaries are known
 --     mov32-sim, addImm-sim                   the steps
 use mathlib.Core.Path.{_≡_, refl, sym, ap, _∙_, subst}
 use mathlib.Core.Logic.{_≢_}

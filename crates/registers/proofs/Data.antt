@@ -1,6 +1,6 @@
 -- An instruction on temporaries writes the number and leaves the flags that `dataOf` says.
 --     ins-exec      each such instruction, as one equation of `exec`
---     ins-frag      the step
+--     ins-meets     the step
 use mathlib.Core.Path.{_≡_, refl, sym, ap, ap₂, _∙_, subst}
 use mathlib.Core.Bool.{Bool, true, false, cond, _&&_, _||_}
 use mathlib.Core.Option.{Option, none, some}

@@ -1,7 +1,6 @@
 -- All slots stored, and all slots loaded again.
 --     flush-frag      every guest register is in the processor record, and the relation holds as before
 --     Homed           every guest register is in the processor record, whatever the slots hold
---     homed-sim       as after a flush
 --     reload-frag     the slots again, from the processor record
 use mathlib.Core.Path.{_≡_, refl, sym, ap, _∙_, subst₂, fun-ext}
 use mathlib.Core.Logic.{_≢_}
@@ -134,10 +133,6 @@ pub record Homed (b : Block) (s0 : State) (rc : RegCache) (a : Abs) (s : State) 
   pub temps : (k v : ℕ) → cls k ≡ 0 → a .t k ≡ some v → R W s k ≡ v
   pub flags : (f : Nzcv) → a .f ≡ some f → s .nzcv ≡ f
   pub done-is : R W s 26 ≡ a .c .done
-
--- as after a flush
-pub homed-sim : {b : Block} {s0 : State} {rc : RegCache} {a : Abs} {s : State} → Sim b s0 rc a s → Home b (a .c) s → Homed b s0 rc a s
-homed-sim w k = record { kept = w .kept; slots = w .slots; uniq = w .cached .uniq; home = k; temps = w .temps; flags = w .flags; done-is = w .done-is }
 
 -- the slots below i, the others free
 part : ℕ → (ℕ → ℕ) → ℕ → ℕ

@@ -1,7 +1,7 @@
 -- Code that moves guest registers between slots, homes and temporaries.
 --     str-slot, ldr-slot          a slot is stored to its register's home; a slot takes a register from its home
 --     spill-frag                  the slot to be given up is stored if it is behind
---     kept-card                   the card's registers change
+--     kept-setReg                 the card's registers change
 use mathlib.Core.Path.{_≡_, refl, sym, ap, _∙_, subst, subst₂}
 use mathlib.Core.Logic.{_≢_}
 use mathlib.Core.Bool.{Bool, true, false}

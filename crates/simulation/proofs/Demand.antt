@@ -2,23 +2,21 @@
 --     demand-3     the claim of crate demand
 -- Assumes nothing.
 use mathlib.Core.Path.{_≡_, refl, sym, ap, ap₂, subst, _∙_}
-use mathlib.Core.Bool.{Bool, true, false}
 use mathlib.Core.Option.{none}
 use mathlib.Core.List.{List, [], _∷_, _++_, map, append-nil, append-assoc}
 use Prim.Native.Nat.{ℕ, zero, suc, _+_, _*_, _%_, _^_, _<_, _≤_}
 use native.Mathlib.Omega.{arith}
-use lib.Dec.{eqb}
 use lib.ListN.{length, getD, drop, length-map, length-append}
 use lib.Seq.{drop-append-seam}
 use Rattle.arm.specs.declared.Instr.{Instr}
 use Rattle.arm.specs.Instr.{encode}
 use Rattle.block.specs.declared.Block.{Block}
 use Rattle.block.specs.Checked.{Checked}
-use Rattle.code.specs.Items.{Sound, pick, padOf, halves}
+use Rattle.code.specs.Items.{Sound, padOf, halves}
 use Rattle.code.specs.Tree.{top, Code, code, words, Line, plain, lines, nowhere, wholeLines, linesWords, instrs, findIn, poolIn}
 use Rattle.code.specs.Machine.{stop, Reaches, Ends, Out, fell, went, left, ended, ofEff, straight, does, Follows}
 use Rattle.code.proofs.Machine.{join, does-ok}
-use Rattle.code.proofs.Reach.{whole-sound}
+use Rattle.code.proofs.Reach.{halves-length, pad-le, whole-sound}
 use Rattle.code.proofs.Fetch.{instrs-length}
 use Rattle.machine.specs.State.{State, code as codePlace, xip}
 use Rattle.machine.specs.Memory.{bytesOf, baseOf, sizeOf}
@@ -34,10 +32,11 @@ use Rattle.lowering.specs.Steps.{blockSteps}
 use Rattle.lowering.specs.Fragments.{stepsCode, opening, closing}
 use Rattle.lowering.specs.Compile.{blockCode, blockLines, blockWords, bodyOffset, starts, targets, zipSites, sites}
 use Rattle.demand.specs.Premises.{Entry, first, body, Premises, AtFirst, AtBody}
-use Rattle.demand.specs.Claim.{siteAddress, Left, CalledInContext, Meets, Demand3}
+use Rattle.demand.specs.Claim.{siteAddress, LeavesFor, Left, CalledInContext, Meets, Demand3}
+use Rattle.demand.proofs.Next.{limit-is}
 use Rattle.relation.specs.Lines.{Stop, returns, jumps, fails, bare, at, arm}
 use Rattle.relation.specs.Abs.{nothing}
-use Rattle.relation.specs.Relation.{Body, siteOf, Leaves, ByTable}
+use Rattle.relation.specs.Relation.{Body, Leaves, ByTable}
 use Rattle.bounds.proofs.Whole.{carries}
 use Rattle.bounds.proofs.Sites.{sited}
 use Rattle.execution.proofs.Steps.{Holds, Ready, addr, lines-words}
@@ -46,9 +45,11 @@ use Rattle.execution.proofs.Calls.{calls-run}
 use Rattle.readiness.proofs.Ready.{block-ready}
 use Rattle.exits.proofs.Closing.{closing-ok}
 use Rattle.exits.proofs.Opening.{opening-ok}
-use Rattle.exits.proofs.Start.{Loaded, body-ok, start-sim, entered-body, loaded-body}
-use Rattle.exits.proofs.Ends.{Entered, SiteIs, left-return, left-table}
-use Rattle.simulation.proofs.Operations.{body-leaves}
+use Rattle.exits.proofs.Start.{body-ok, start-sim, entered-body, loaded-body}
+use Rattle.exits.proofs.Ends.{Entered, Loaded, SiteIs, left-return, left-table}
+use Rattle.simulation.proofs.Sites.{Aimed}
+use Rattle.simulation.proofs.Steps.{siteAt}
+use Rattle.simulation.proofs.Operations.{Leaving, body-leaves}
 
 -- ---- the block's lines
 -- the code behind the opening words
@@ -125,27 +126,22 @@ unfolding bodyOffset opening
 pc-body x n z l = x .pc ∙ omega arith
 
 -- ---- the words
-halves-length : (ps : List ℕ) → length (halves ps) ≡ 2 * length ps
-unfolding halves
-halves-length [] = refl
-halves-length (v ∷ ps) = omega (arith, halves-length ps)
-
-pad-short : (n : ℕ) (ps : List ℕ) → length (padOf n ps) ≤ 1
-unfolding padOf
-pad-short n [] = omega arith
-pad-short n (v ∷ ps) = by (eqb (n % 2) 0)
-  where
-    by : (u : Bool) → length (pick u [] (encode Instr.Nop ∷ [])) ≤ 1
-    by true = omega arith
-    by false = omega arith
-
 words-short : (b : Block) → Checked b → length (linesWords (blockLines b)) < 2 ^ 18
 unfolding linesWords
 words-short b C =
     let is : List Instr = instrs (findIn (blockLines b)) 0 (blockLines b) in
     let ps : List ℕ = poolIn [] (blockLines b) in
     let pad : List ℕ = padOf (length (blockLines b)) ps in
-    omega (arith, carries b C .short, instrs-length (findIn (blockLines b)) 0 (blockLines b), length-map is encode, halves-length ps, pad-short (length (blockLines b)) ps, length-append pad (halves ps), length-append (map encode is) (pad ++ halves ps))
+    omega (
+      arith,
+      carries b C .short,
+      instrs-length (findIn (blockLines b)) 0 (blockLines b),
+      length-map is encode,
+      halves-length ps,
+      pad-le (length (blockLines b)) ps,
+      length-append pad (halves ps),
+      length-append (map encode is) (pad ++ halves ps),
+    )
 
 sound-lines : (b : Block) → Checked b → Sound (instrs (findIn (blockLines b)) 0 (blockLines b))
 unfolding blockLines
@@ -158,6 +154,19 @@ zip-at (p ∷ ps) [] k e = absurd (omega arith)
 zip-at (p ∷ ps) (t ∷ ts) zero e = refl
 zip-at (p ∷ ps) (t ∷ ts) (suc k) e = zip-at ps ts k (omega arith)
 
+zip-target : (ps ts : List ℕ) (k : ℕ) → length ps ≡ length ts
+    → getD (zipSites ps ts) k (record { at = 0; target = 0 }) .target ≡ getD ts k 0
+zip-target [] [] k e = refl
+zip-target [] (t ∷ ts) k e = absurd (omega arith)
+zip-target (p ∷ ps) [] k e = absurd (omega arith)
+zip-target (p ∷ ps) (t ∷ ts) zero e = refl
+zip-target (p ∷ ps) (t ∷ ts) (suc k) e = zip-target ps ts k (omega arith)
+
+zip-length : (ps ts : List ℕ) → length ps ≡ length ts → length (zipSites ps ts) ≡ length ts
+zip-length [] ts e = e
+zip-length (p ∷ ps) [] e = absurd (omega arith)
+zip-length (p ∷ ps) (t ∷ ts) e = ap suc (zip-length ps ts (omega arith))
+
 body-sites : (b : Block) → starts (blockCode b) 0 ≡ starts (bodyCode b) 13
 unfolding blockCode starts words opening
 body-sites b = refl
@@ -167,6 +176,14 @@ unfolding sites
 site-is b s k =
     ap (λ n. (baseOf (s .mem) codePlace + 4 * n) % 2 ^ 64)
     (ap (λ ps. getD ps k 0) (sym (body-sites b)) ∙ sym (zip-at (starts (blockCode b) 0) (targets (blockSteps b)) k (sited b .all)))
+
+-- the target that is listed for a site is the pc that the card leaves for
+leaves-for : (b : Block) (k : ℕ) (d : Card) → Aimed (chains k) d (targets (blockSteps b)) → LeavesFor b k (d .pc)
+unfolding sites
+leaves-for b k d h = record {
+  listed = omega (arith, zip-length (starts (blockCode b) 0) (targets (blockSteps b)) (sited b .all), h .0);
+  target = zip-target (starts (blockCode b) 0) (targets (blockSteps b)) k (sited b .all) ∙ h .1;
+}
 
 -- ---- a run of the machine, from a start of either kind
 -- a state is itself at its own program counter and count
@@ -213,30 +230,39 @@ module _ {b : Block} {h : Helpers} {entry : Entry} {limit : ℕ} {c : Card} {s :
     B = body-ok P E L
 
     claimed : (w : Way) (d : Card) → runCard b (bytesOf (s .mem) xip) limit c ≡ leaves w d → Left b entry w d s (run (length (blockWords b)) h s) × CalledInContext h s
-    claimed w d e =
-        by (does (arm h start) (bodyCode b) 13 s0) refl
-        (body-leaves B C start (record { c = c; t = nothing; f = none }) w d (P .done-lt)
-        (ap₂ (λ l n. runCard b l n c) (E .bytes-are xip (omega arith)) (L .w27) ∙ e) 13 s0 (start-sim P E L))
+    claimed w d e = by (does (arm h start) (bodyCode b) 13 s0) refl (leaving .0)
       where
-        site : (w : Way) → SiteIs E b w ((start + 4 * getD (starts (bodyCode b) 13) (siteOf w) 0) % 2 ^ 64)
-        site exits = tt
-        site (chains k) = site-is b s k
-        site looksUp = tt
+        leaving : Leaving B C start emptyCache (blockSteps b) 13 s0 w d
+        leaving = body-leaves B C start (record { c = c; t = nothing; f = none }) w d (P .done-lt)
+            (ap₂ (λ l n. runCard b l n c) (E .bytes-are xip (omega arith)) (L .w27) ∙ e) 13 s0 (start-sim P E L)
+
+        site : (v : Way) → Aimed v d (targets (blockSteps b)) → SiteIs E b v (d .pc) (siteAt start v (starts (bodyCode b) 13))
+        site exits h = tt
+        site (chains k) h = (leaves-for b k d h, site-is b s k)
+        site looksUp h = tt
 
         table : (v : Way) (r : Stop) → ByTable b s0 v d r → Ends (arm h start) 13 (bodyLines b) s0 r → Left b entry v d s (run (length (blockWords b)) h s) × CalledInContext h s
         table exits r l x = absurd l
         table (chains k) r l x = absurd l
         table looksUp (returns to t) l x = absurd l
-        table looksUp (jumps to t) l x = let z = runs (jumps to t) x in (subst (λ y. Left b entry looksUp d s y) (sym (z .leaving .is)) (left-table E (z .leaving .count) l), z .in-context (λ y. absurd (let f : _≡_ {A = ℕ} 0 1 = cc in omega arith)))
+        table looksUp (jumps to t) l x =
+            let z = runs (jumps to t) x in (
+              subst (λ y. Left b entry looksUp d s y) (sym (z .leaving .is)) (left-table E L (limit-is entry P) (z .leaving .count) l),
+              z .in-context (λ y. absurd (let f : _≡_ {A = ℕ} 0 1 = cc in omega arith)),
+            )
         table looksUp fails l x = absurd l
 
-        by : (o : Out State Stop top) → does (arm h start) (bodyCode b) 13 s0 ≡ o → Leaves b s0 w d ((start + 4 * getD (starts (bodyCode b) 13) (siteOf w) 0) % 2 ^ 64) o → Left b entry w d s (run (length (blockWords b)) h s) × CalledInContext h s
+        by : (o : Out State Stop top) → does (arm h start) (bodyCode b) 13 s0 ≡ o
+            → Leaves b s0 w d (siteAt start w (starts (bodyCode b) 13)) o
+            → Left b entry w d s (run (length (blockWords b)) h s) × CalledInContext h s
         by (fell t) q l = absurd l
         by (went v t) q l = absurd l
         by (left t) q l =
             let (to, u, y, z) = closing-ok B (l .kept) start in
-            let x = runs (returns to u) (return-ends B C start t u to (left-reaches B C start t q) y) in
-            (subst (λ k. Left b entry w d s k) (sym (x .leaving .is)) (left-return E w (x .leaving .count) (site w) l z), x .in-context (λ v. absurd (let f : _≡_ {A = ℕ} 0 1 = cc in omega arith)))
+            let x = runs (returns to u) (return-ends B C start t u to (left-reaches B C start t q) y) in (
+              subst (λ k. Left b entry w d s k) (sym (x .leaving .is)) (left-return E w (x .leaving .count) (site w (leaving .1)) l z),
+              x .in-context (λ v. absurd (let f : _≡_ {A = ℕ} 0 1 = cc in omega arith)),
+            )
         by (ended r) q l = table w r l (ended-ends B C start r q)
 
     met : (w : Way) (d : Card) → runCard b (bytesOf (s .mem) xip) limit c ≡ leaves w d → Meets b h entry w d s (run (length (blockWords b)) h s)

@@ -3,19 +3,17 @@
 --     body-leaves    the block's code behind the opening words
 -- Assumes nothing.
 use mathlib.Core.Path.{_≡_, refl, sym, ap, subst, _∙_}
-use mathlib.Core.Bool.{Bool, true, false, cond, not, _&&_}
-use mathlib.Core.Option.{Option, none, some}
+use mathlib.Core.Bool.{Bool, true, false, cond}
+use mathlib.Core.Option.{none}
 use mathlib.Core.List.{List, [], _∷_, _++_, append-assoc}
-use Prim.Native.Nat.{ℕ, zero, suc, _+_, _*_, _%_, _^_, _<_, _≤_}
+use Prim.Native.Nat.{ℕ, suc, _+_, _^_, _<_, _≤_}
 use native.Mathlib.Numerals.{add-one}
 use native.Mathlib.Nat.{mod-lt, min-eq-left}
 use native.Mathlib.Omega.{arith}
 use lib.Dec.{eqb, ltb}
-use lib.ListN.{length, getD, length-take}
+use lib.ListN.{length, length-take}
 use Rattle.arm.specs.declared.Size.the-variants.{W}
-use Rattle.block.specs.declared.Cond.{Cond}
 use Rattle.block.specs.declared.Cond.the-variants.{Eq, Ne}
-use Rattle.block.specs.declared.Width.{Width}
 use Rattle.block.specs.declared.Width.the-variants.{Word as B32}
 use Rattle.block.specs.declared.Fast.{Fast}
 use Rattle.block.specs.declared.Fast.the-variants.{Nop, MovI, Mov, AddRI, ShlI, SarI, Alu3, Alu3I, Alu2, Alu2I, A4, Ext, MinMax, Un, Div, Mov2, Mov2I, BitExt, BitIns, SpAdd, RFromSp, Ld, St, LdIdx, StIdx, LdPost, StPost, Rmw, PushRet, PopRets, BrI, BrR, DecBr, BitBr, Goto, Call, Rts, GotoR, CallR, PopRet}
@@ -23,47 +21,44 @@ use Rattle.block.specs.declared.Memory.{Memory}
 use Rattle.block.specs.declared.BOp.{BOp}
 use Rattle.block.specs.declared.Block.{Block}
 use Rattle.block.specs.Block.{opsOf, mayJump}
-use Rattle.block.specs.Checked.{Checked, BOpFits, OpsFit, NoneAfterJump}
+use Rattle.block.specs.Checked.{Checked, OpsFit, NoneAfterJump}
 use Rattle.code.specs.Items.{pick}
-use Rattle.code.specs.Tree.{top, Code, code, _then_, words}
+use Rattle.code.specs.Tree.{top, Code, words}
 use Rattle.code.specs.Machine.{Machine, Out, fell, went, left, ended, andThen, straight, does}
 use Rattle.machine.specs.State.{State, xip, R}
 use Rattle.machine.specs.Memory.{bytesOf}
 use Rattle.machine.specs.Execute.{Helpers}
 use Rattle.card.specs.Card.{Card, arrive, reg, rhs, setReg, addSp}
-use Rattle.card.specs.Word.{plus, minus, holds}
+use Rattle.card.specs.Word.{minus, holds}
 use Rattle.card.specs.Memory.{Access, got, unmet}
 use Rattle.card.specs.Memory.{load as loadCard}
 use lib.Bits.{bitAnd}
-use Rattle.card.specs.Step.{Way, exits, chains, looksUp, After, on, out, starved, withLoaded, indBrk, opStep}
+use Rattle.card.specs.Step.{Way, exits, chains, After, on, out, starved, withLoaded, indBrk, opStep}
 use Rattle.card.specs.Step.{fork as forkCard, ind as indCard}
-use Rattle.card.specs.Run.{End, stopped, checked, opsFrom}
+use Rattle.card.specs.Run.{End, checked, opsFrom}
 use Rattle.card.specs.Run.{left as leaves, andThen as thenCard, run as runCard}
 use Rattle.lowering.specs.declared.RegCache.{RegCache}
 use Rattle.lowering.specs.Cache.{emptyCache}
 use Rattle.lowering.specs.Steps.{Step, behind, opSteps, opsSteps, blockSteps}
 use Rattle.lowering.specs.Fragments.{stepCode, stepCache, stepsCode}
-use Rattle.lowering.specs.Compile.{starts}
-use Rattle.relation.specs.Lines.{arm}
+use Rattle.lowering.specs.Compile.{starts, targets}
+use Rattle.relation.specs.Lines.{Stop, arm}
 use Rattle.relation.specs.Abs.{Abs, Then, go, off, void, upd, mstep, mrun}
 use Rattle.relation.specs.Abs.{andThen as thenAbs}
-use Rattle.relation.specs.Relation.{Small, Body, Sim, siteOf, Outs, Leaves}
-use Rattle.relation.specs.Fits.{StepFits, AllFit}
+use Rattle.relation.specs.Relation.{Body, Sim, Leaves}
+use Rattle.relation.specs.Fits.{StepFits}
 use Rattle.kinds.specs.Agrees.{Agrees}
 use Rattle.kinds.proofs.Agree.{op-agrees}
 use Rattle.kinds.proofs.Fit.{op-fits}
-use Rattle.readiness.proofs.Encodable.{AllKnown, op-known}
-use Rattle.simulation.proofs.Sites.{Sited}
-use Rattle.simulation.proofs.Steps.{leaves-as, leaves-front, front-same, Met, met-then, cacheAfter, step-met, steps-met}
+use Rattle.readiness.proofs.Encodable.{op-known}
+use Rattle.lowering.proofs.Targets.{targets-append}
+use Rattle.simulation.proofs.Sites.{Aimed}
+use Rattle.simulation.proofs.Steps.{siteAt, leaves-as, leaves-front, front-same, aimed-front}
+use Rattle.simulation.proofs.Steps.{met-then, cacheAfter, step-met, StepsMet, steps-met}
 use Rattle.registers.proofs.Frags.{frag-nil}
 
 -- ---- a list of steps in two parts
 module _ (b : Block) where
-  words-append : (rc : RegCache) (xs ys : List Step) → words (stepsCode b rc (xs ++ ys)) ≡ words (stepsCode b rc xs) + words (stepsCode b (cacheAfter rc xs) ys)
-  unfolding stepsCode cacheAfter words
-  words-append rc [] ys = omega arith
-  words-append rc (x ∷ xs) ys = omega (arith, words-append (stepCache rc x) xs ys)
-
   starts-append : (rc : RegCache) (xs ys : List Step) (p : ℕ) → starts (stepsCode b rc (xs ++ ys)) p ≡ starts (stepsCode b rc xs) p ++ starts (stepsCode b (cacheAfter rc xs) ys) (p + words (stepsCode b rc xs))
   unfolding stepsCode cacheAfter words starts
   starts-append rc [] ys p = ap (starts (stepsCode b rc ys)) (omega arith)
@@ -179,43 +174,55 @@ module _ {b : Block} {h : Helpers} {s0 : State} (B : Body b h s0) (C : Checked b
   abbrev lim : ℕ
   lim = R W s0 27
 
-  -- the address of the site that a way out leads by
-  abbrev pub siteAt : Way → List ℕ → ℕ
-  siteAt w ss = (base + 4 * getD ss (siteOf w) 0) % 2 ^ 64
+  -- what the code of steps from position p on does
+  abbrev doesAll : RegCache → List Step → (p : ℕ) → State → Out State Stop top
+  doesAll rc ss p s = does (arm h base) (stepsCode b rc ss) p s
 
-  -- code from position p on leaves so
+  -- it leaves so, and the target listed for the site that it leaves by is the card's pc
   abbrev pub Leaving : RegCache → List Step → (p : ℕ) → State → Way → Card → Type 0
-  Leaving rc ss p s w d = Leaves b s0 w d (siteAt w (starts (stepsCode b rc ss) p)) (does (arm h base) (stepsCode b rc ss) p s)
+  Leaving rc ss p s w d = Leaves b s0 w d (siteAt base w (starts (stepsCode b rc ss) p)) (doesAll rc ss p s) × Aimed w d (targets ss)
 
   -- steps that go on, before steps that leave
-  leave-on : (rc : RegCache) (a a₁ : Abs) (xs ys : List Step) (w : Way) (d : Card) → Met h base b s0 rc a (stepsCode b rc xs) (cacheAfter rc xs) (go a₁)
+  leave-on : (rc : RegCache) (a a₁ : Abs) (xs ys : List Step) (w : Way) (d : Card) → StepsMet B C base rc a xs (go a₁)
       → ((p : ℕ) (s : State) → Sim b s0 (cacheAfter rc xs) a₁ s → Leaving (cacheAfter rc xs) ys p s w d)
       → (p : ℕ) (s : State) → Sim b s0 rc a s → Leaving rc (xs ++ ys) p s w d
   leave-on rc a a₁ xs ys w d x k p s i =
       let (s₁, e, j) = x .meets .runs p s i in
       let q : ℕ = p + words (stepsCode b rc xs) in
-      let z : starts (stepsCode b rc (xs ++ ys)) p ≡ starts (stepsCode b (cacheAfter rc xs) ys) q = starts-append b rc xs ys p ∙ ap (λ ss. ss ++ starts (stepsCode b (cacheAfter rc xs) ys) q) (x .sited p) in
-      let o : does (arm h base) (stepsCode b rc (xs ++ ys)) p s ≡ does (arm h base) (stepsCode b (cacheAfter rc xs) ys) q s₁ = does-append b (arm h base) rc xs ys p s ∙ ap (λ u. andThen u (λ s₂. does (arm h base) (stepsCode b (cacheAfter rc xs) ys) q s₂)) e in
-      subst (λ ss. Leaves b s0 w d ((base + 4 * getD ss (siteOf w) 0) % 2 ^ 64) (does (arm h base) (stepsCode b rc (xs ++ ys)) p s)) (sym z)
-      (subst (λ u. Leaves b s0 w d ((base + 4 * getD (starts (stepsCode b (cacheAfter rc xs) ys) q) (siteOf w) 0) % 2 ^ 64) u) (sym o) (k q s₁ j))
+      let rc₁ : RegCache = cacheAfter rc xs in
+      let z : starts (stepsCode b rc (xs ++ ys)) p ≡ starts (stepsCode b rc₁ ys) q =
+      starts-append b rc xs ys p ∙ ap (λ ss. ss ++ starts (stepsCode b rc₁ ys) q) (x .sited p .0) in
+      let o : doesAll rc (xs ++ ys) p s ≡ doesAll rc₁ ys q s₁ =
+      does-append b (arm h base) rc xs ys p s ∙ ap (λ u. andThen u (λ s₂. doesAll rc₁ ys q s₂)) e in
+      let v : targets (xs ++ ys) ≡ targets ys = targets-append xs ys ∙ ap (λ ts. ts ++ targets ys) (x .sited p .1) in
+      let l = k q s₁ j in (
+        subst (λ ss. Leaves b s0 w d (siteAt base w ss) (doesAll rc (xs ++ ys) p s)) (sym z)
+            (subst (λ u. Leaves b s0 w d (siteAt base w (starts (stepsCode b rc₁ ys) q)) u) (sym o) (l .0)),
+        subst (Aimed w d) (sym v) (l .1),
+      )
 
   -- steps that leave, before any others
-  leave-out : (rc : RegCache) (a : Abs) (xs ys : List Step) (w : Way) (d : Card) → Met h base b s0 rc a (stepsCode b rc xs) (cacheAfter rc xs) (off w d)
+  leave-out : (rc : RegCache) (a : Abs) (xs ys : List Step) (w : Way) (d : Card) → StepsMet B C base rc a xs (off w d)
       → (p : ℕ) (s : State) → Sim b s0 rc a s → Leaving rc (xs ++ ys) p s w d
   leave-out rc a xs ys w d x p s i =
       let q : ℕ = p + words (stepsCode b rc xs) in
       let ss : List ℕ = starts (stepsCode b rc xs) p in
       let ts : List ℕ = starts (stepsCode b (cacheAfter rc xs) ys) q in
-      subst (λ l. Leaves b s0 w d ((base + 4 * getD l (siteOf w) 0) % 2 ^ 64) (does (arm h base) (stepsCode b rc (xs ++ ys)) p s)) (sym (starts-append b rc xs ys p))
-      (subst (λ u. Leaves b s0 w d ((base + 4 * getD (ss ++ ts) (siteOf w) 0) % 2 ^ 64) u) (sym (does-append b (arm h base) rc xs ys p s))
-      (leaves-as b s0 w d ((base + 4 * getD ss (siteOf w) 0) % 2 ^ 64) ((base + 4 * getD (ss ++ ts) (siteOf w) 0) % 2 ^ 64) (andThen (does (arm h base) (stepsCode b rc xs) p s) (λ s₁. does (arm h base) (stepsCode b (cacheAfter rc xs) ys) q s₁))
-      (front-same base w d ss ts (x .sited p))
-      (leaves-front b s0 w d ((base + 4 * getD ss (siteOf w) 0) % 2 ^ 64) (does (arm h base) (stepsCode b rc xs) p s) (λ s₁. does (arm h base) (stepsCode b (cacheAfter rc xs) ys) q s₁) (x .meets .leaves p s i))))
+      let rest : State → Out State Stop top = λ s₁. doesAll (cacheAfter rc xs) ys q s₁ in
+      let l = leaves-front b s0 w d (siteAt base w ss) (doesAll rc xs p s) rest (x .meets .leaves p s i) in (
+        subst (λ n. Leaves b s0 w d (siteAt base w n) (doesAll rc (xs ++ ys) p s)) (sym (starts-append b rc xs ys p))
+            (subst (λ u. Leaves b s0 w d (siteAt base w (ss ++ ts)) u) (sym (does-append b (arm h base) rc xs ys p s))
+            (leaves-as b s0 w d (siteAt base w ss) (siteAt base w (ss ++ ts)) (andThen (doesAll rc xs p s) rest)
+            (front-same base w ss ts (x .sited p .0)) l)),
+        subst (Aimed w d) (sym (targets-append xs ys)) (aimed-front w d (targets xs) (targets ys) (x .sited p .1)),
+      )
 
   -- off the end of the block
   end-leaves : (i pc : ℕ) → i < 4096 → pc < 2 ^ 32 → (rc : RegCache) (a : Abs) (p : ℕ) (s : State) → Sim b s0 rc a s → Leaving rc (Step.chain pc i ∷ []) p s (chains 0) (arrive pc i (a .c))
   unfolding mrun mstep StepFits
-  end-leaves i pc hi hp rc a p s j = steps-met B C base (Step.chain pc i ∷ []) ((hp, hi), tt) (tt, tt) rc a .meets .leaves p s j
+  end-leaves i pc hi hp rc a p s j =
+      let x = steps-met B C base (Step.chain pc i ∷ []) ((hp, hi), tt) (tt, tt) rc a in
+      (x .meets .leaves p s j, x .sited p .1)
 
   tail-jumps : (o : BOp) (os : List BOp) → NoneAfterJump (o ∷ os) → NoneAfterJump os
   tail-jumps o [] h = tt
@@ -244,7 +251,7 @@ module _ {b : Block} {h : Helpers} {s0 : State} (B : Body b h s0) (C : Checked b
       rest = pick (mayJump (o .fast)) [] (opsSteps (i + 1) (behind pc o) os)
 
       by : (r : After) (t : Then) → checked o i (behind pc o) (opStep m flash i (behind pc o) (o .fast) (a .c)) ≡ r → Agrees r t
-          → Met h base b s0 rc a (stepsCode b rc (opSteps o i (behind pc o))) (cacheAfter rc (opSteps o i (behind pc o))) t
+          → StepsMet B C base rc a (opSteps o i (behind pc o)) t
           → thenCard r (arrive pc i (a .c)) (λ c₁. opsFrom m flash (suc i) (behind pc o) os c₁) ≡ leaves w d
           → ((a₁ : Abs) (d₁ : Card) → opsFrom m flash (i + 1) (behind pc o) os (a₁ .c) ≡ leaves w d₁ → (q : ℕ) (u : State) → Sim b s0 (cacheAfter rc (opSteps o i (behind pc o))) a₁ u → Leaving (cacheAfter rc (opSteps o i (behind pc o))) (opsSteps (i + 1) (behind pc o) os) q u w d₁)
           → Leaving rc (opSteps o i (behind pc o) ++ rest) p s w d
@@ -270,45 +277,50 @@ module _ {b : Block} {h : Helpers} {s0 : State} (B : Body b h s0) (C : Checked b
   ops-count : length (opsOf b) ≡ b .n
   ops-count = length-take (b .n) (b .ops) ∙ min-eq-left (omega (arith, C .size, C .count))
 
-  -- the test of the limit alone
-  limit-met : (rc : RegCache) (a : Abs) → a .c .done + b .n < 2 ^ 32 → Met h base b s0 rc a (stepsCode b rc (Step.limit (b .pc0) (b .n) ∷ [])) (cacheAfter rc (Step.limit (b .pc0) (b .n) ∷ [])) (thenAbs (mstep b flash lim (Step.limit (b .pc0) (b .n)) a) (λ a₁. go a₁))
-  unfolding stepsCode cacheAfter starts StepFits
-  limit-met rc a k =
-      met-then (mstep b flash lim (Step.limit (b .pc0) (b .n)) a) (λ a₁. go a₁)
-      (step-met B C base rc a (Step.limit (b .pc0) (b .n)) (omega (arith, C .pc0-to), omega (arith, C .count)) k) (λ a₁. record { meets = frag-nil; sited = λ p. refl })
+  -- the test of the limit alone, and what it leads to
+  abbrev limitStep : Step
+  limitStep = Step.limit (b .pc0) (b .n)
 
-  limit-cases : (rc : RegCache) (a : Abs) → Met h base b s0 rc a (stepsCode b rc (Step.limit (b .pc0) (b .n) ∷ [])) (cacheAfter rc (Step.limit (b .pc0) (b .n) ∷ [])) (thenAbs (mstep b flash lim (Step.limit (b .pc0) (b .n)) a) (λ a₁. go a₁))
-      → Met h base b s0 rc a (stepsCode b rc (Step.limit (b .pc0) (b .n) ∷ [])) (cacheAfter rc (Step.limit (b .pc0) (b .n) ∷ []))
-      (cond (ltb lim (a .c .done + b .n)) (off exits (arrive (b .pc0) 0 (a .c))) (go (record { c = a .c; t = upd (a .t) 9 none; f = none })))
-  unfolding mstep
-  limit-cases rc a x = subst (λ r. Met h base b s0 rc a (stepsCode b rc (Step.limit (b .pc0) (b .n) ∷ [])) (cacheAfter rc (Step.limit (b .pc0) (b .n) ∷ [])) r) (by (ltb lim (a .c .done + b .n))) x
+  abbrev within : Abs → Abs
+  within a = record { c = a .c; t = upd (a .t) 9 none; f = none }
+
+  abbrev limited : (over : Bool) → Abs → Then
+  limited u a = cond u (off exits (arrive (b .pc0) 0 (a .c))) (go (within a))
+
+  limit-met : (rc : RegCache) (a : Abs) → a .c .done + b .n < 2 ^ 32
+      → StepsMet B C base rc a (limitStep ∷ []) (limited (ltb lim (a .c .done + b .n)) a)
+  unfolding stepsCode cacheAfter starts StepFits mstep
+  limit-met rc a k =
+      subst (λ r. StepsMet B C base rc a (limitStep ∷ []) r) (by (ltb lim (a .c .done + b .n)))
+      (met-then (mstep b flash lim limitStep a) (λ a₁. go a₁)
+      (step-met B C base rc a limitStep (omega (arith, C .pc0-to), omega (arith, C .count)) k)
+      (λ a₁. record { meets = frag-nil; sited = λ p. (refl, refl) }))
     where
-      by : (u : Bool) → thenAbs (cond u (off exits (arrive (b .pc0) 0 (a .c))) (go (record { c = a .c; t = upd (a .t) 9 none; f = none }))) (λ a₁. go a₁) ≡ cond u (off exits (arrive (b .pc0) 0 (a .c))) (go (record { c = a .c; t = upd (a .t) 9 none; f = none }))
+      by : (u : Bool) → thenAbs (limited u a) (λ a₁. go a₁) ≡ limited u a
       by true = refl
       by false = refl
 
-  pub body-leaves : (a : Abs) (w : Way) (d : Card) → a .c .done + b .n < 2 ^ 32 → runCard b flash lim (a .c) ≡ leaves w d → (p : ℕ) (s : State) → Sim b s0 emptyCache a s → Leaving emptyCache (blockSteps b) p s w d
+  pub body-leaves : (a : Abs) (w : Way) (d : Card) → a .c .done + b .n < 2 ^ 32 → runCard b flash lim (a .c) ≡ leaves w d
+      → (p : ℕ) (s : State) → Sim b s0 emptyCache a s → Leaving emptyCache (blockSteps b) p s w d
   unfolding runCard blockSteps
-  body-leaves a w d k e p s j = by (ltb lim (a .c .done + b .n)) (subst (λ n. cond (ltb lim (a .c .done + n)) (leaves exits (arrive (b .pc0) 0 (a .c))) (opsFrom m flash 0 (b .pc0) (opsOf b) (a .c)) ≡ leaves w d) ops-count e) (limit-is (limit-met emptyCache a k))
+  body-leaves a w d k e p s j =
+      by (ltb lim (a .c .done + b .n)) (subst (λ n. ends (ltb lim (a .c .done + n)) ≡ leaves w d) ops-count e) (limit-met emptyCache a k)
     where
-      first-step : List Step
-      first-step = Step.limit (b .pc0) (b .n) ∷ []
+      ends : (over : Bool) → End
+      ends u = cond u (leaves exits (arrive (b .pc0) 0 (a .c))) (opsFrom m flash 0 (b .pc0) (opsOf b) (a .c))
 
-      after : Abs
-      after = record { c = a .c; t = upd (a .t) 9 none; f = none }
+      rest : List Step
+      rest = opsSteps 0 (b .pc0) (opsOf b)
 
-      Limited : Bool → Type 0
-      Limited u = Met h base b s0 emptyCache a (stepsCode b emptyCache first-step) (cacheAfter emptyCache first-step) (cond u (off exits (arrive (b .pc0) 0 (a .c))) (go after))
-
-      limit-is : Met h base b s0 emptyCache a (stepsCode b emptyCache first-step) (cacheAfter emptyCache first-step) (thenAbs (mstep b flash lim (Step.limit (b .pc0) (b .n)) a) (λ a₁. go a₁)) → Limited (ltb lim (a .c .done + b .n))
-      limit-is x = limit-cases emptyCache a x
-
-      by : (u : Bool) → cond u (leaves exits (arrive (b .pc0) 0 (a .c))) (opsFrom m flash 0 (b .pc0) (opsOf b) (a .c)) ≡ leaves w d → Limited u → Leaving emptyCache (first-step ++ opsSteps 0 (b .pc0) (opsOf b)) p s w d
+      by : (u : Bool) → ends u ≡ leaves w d → StepsMet B C base emptyCache a (limitStep ∷ []) (limited u a)
+          → Leaving emptyCache ((limitStep ∷ []) ++ rest) p s w d
       by true e₁ x =
           let ew : exits ≡ w = cc in
           let ed : arrive (b .pc0) 0 (a .c) ≡ d = cc in
-          subst (λ y. Leaving emptyCache (first-step ++ opsSteps 0 (b .pc0) (opsOf b)) p s y d) ew
-          (subst (λ y. Leaving emptyCache (first-step ++ opsSteps 0 (b .pc0) (opsOf b)) p s exits y) ed (leave-out emptyCache a first-step (opsSteps 0 (b .pc0) (opsOf b)) exits (arrive (b .pc0) 0 (a .c)) x p s j))
+          subst (λ y. Leaving emptyCache ((limitStep ∷ []) ++ rest) p s y d) ew
+          (subst (λ y. Leaving emptyCache ((limitStep ∷ []) ++ rest) p s exits y) ed
+          (leave-out emptyCache a (limitStep ∷ []) rest exits (arrive (b .pc0) 0 (a .c)) x p s j))
       by false e₁ x =
-          leave-on emptyCache a after first-step (opsSteps 0 (b .pc0) (opsOf b)) w d x
-          (λ q u ju. ops-leave (opsOf b) 0 (b .pc0) (C .ops) (C .last-jumps) (omega (arith, ops-count, C .count)) (omega (arith, C .pc0-to)) (cacheAfter emptyCache first-step) after w d e₁ q u ju) p s j
+          leave-on emptyCache a (within a) (limitStep ∷ []) rest w d x
+          (λ q u ju. ops-leave (opsOf b) 0 (b .pc0) (C .ops) (C .last-jumps) (omega (arith, ops-count, C .count)) (omega (arith, C .pc0-to))
+          (cacheAfter emptyCache (limitStep ∷ [])) (within a) w d e₁ q u ju) p s j

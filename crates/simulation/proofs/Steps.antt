@@ -3,38 +3,28 @@
 --     steps-met     a list of steps, with their chain sites
 -- Assumes nothing.
 use mathlib.Core.Path.{_≡_, refl, sym, ap, subst, _∙_}
-use mathlib.Core.Bool.{Bool, true, false, cond, not, _&&_}
-use mathlib.Core.Option.{Option, none, some}
-use mathlib.Core.List.{List, [], _∷_, _++_, append-assoc}
-use Prim.Native.Nat.{ℕ, zero, suc, _+_, _*_, _%_, _^_, _<_, _≤_}
+use mathlib.Core.List.{List, [], _∷_, _++_}
+use Prim.Native.Nat.{ℕ, zero, suc, _+_, _*_, _%_, _^_, _<_}
 use native.Mathlib.Omega.{arith}
-use native.Mathlib.Nat.{add-assoc}
-use lib.Dec.{eqb}
 use lib.ListN.{length, getD, length-append}
 use Rattle.arm.specs.declared.Size.the-variants.{W}
-use Rattle.block.specs.declared.Width.{Width}
-use Rattle.block.specs.declared.Width.the-variants.{Byte as B8, Half as B16, Word as B32}
 use Rattle.block.specs.declared.Block.{Block}
 use Rattle.block.specs.Checked.{Checked}
-use Rattle.code.specs.Tree.{Depth, top, under, Var, inner, outer, Code, code, lit, to, exit, block, start, _then_, words}
-use Rattle.code.specs.Machine.{Machine, Out, fell, went, left, ended, andThen, does}
+use Rattle.code.specs.Tree.{Depth, top, Code, _then_, words}
+use Rattle.code.specs.Machine.{Out, fell, went, left, ended, andThen, does}
 use Rattle.machine.specs.State.{State, xip, R}
 use Rattle.machine.specs.Memory.{bytesOf}
 use Rattle.machine.specs.Execute.{Helpers}
-use Rattle.machine.specs.Bits.{Nzcv, ConditionHolds}
-use Rattle.card.specs.Card.{Card, arrive}
-use Rattle.card.specs.Memory.{Access, got, unmet}
-use Rattle.card.specs.Memory.{load as loadCard, store as storeCard}
+use Rattle.card.specs.Card.{Card}
 use Rattle.card.specs.Step.{Way, exits, chains, looksUp}
 use Rattle.lowering.specs.declared.RegCache.{RegCache}
 use Rattle.lowering.specs.Steps.{Step}
-use Rattle.lowering.specs.Fragments.{brkFirst, tryRegion, oddTest, mapTest, call, exitImm, chain, ind, checkBrk, fork, limit, load, store, stepCode, stepCache, stepsCode}
-use Rattle.lowering.specs.Compile.{starts}
-use Rattle.relation.specs.Lines.{Stop, returns, jumps, fails, arm}
-use Rattle.relation.specs.Data.{Data, dataOf}
-use Rattle.relation.specs.Abs.{Abs, Then, go, off, void, known, ifGot, mins, mdata, ifAll, allSeen, flagsFor, mstep, mrun}
+use Rattle.lowering.specs.Fragments.{chain, ind, checkBrk, fork, limit, load, store, stepCode, stepCache, stepsCode}
+use Rattle.lowering.specs.Compile.{starts, targets}
+use Rattle.relation.specs.Lines.{Stop, arm}
+use Rattle.relation.specs.Abs.{Abs, Then, go, off, void, mstep, mrun}
 use Rattle.relation.specs.Abs.{andThen as thenAbs}
-use Rattle.relation.specs.Relation.{Body, Sim, Frag, siteOf, Outs, Meets, Leaves, AtExit}
+use Rattle.relation.specs.Relation.{Body, siteOf, Meets, Leaves}
 use Rattle.relation.specs.Fits.{StepFits, AllFit}
 use Rattle.registers.proofs.Frags.{frag-nil, frag-then}
 use Rattle.registers.proofs.Steps.{ldReg-meets, stReg-meets, ldField-meets, stField-meets, mov32-meets, addImm-meets, ins-step-meets}
@@ -44,7 +34,8 @@ use Rattle.exits.proofs.Exit.{checkBrk-meets, limit-meets}
 use Rattle.exits.proofs.Chain.{chain-meets, fork-meets}
 use Rattle.exits.proofs.Lookup.{ind-meets}
 use Rattle.readiness.proofs.Encodable.{StepKnown, AllKnown}
-use Rattle.simulation.proofs.Sites.{Sited}
+use Rattle.lowering.proofs.Targets.{targets-append}
+use Rattle.simulation.proofs.Sites.{Has, Aimed, Sited}
 use Rattle.simulation.proofs.Sites.{sited as step-sited}
 
 -- ---- one step
@@ -106,6 +97,10 @@ module _ {b : Block} {h : Helpers} {s0 : State} (B : Body b h s0) (C : Checked b
   step-ok rc a (Step.limit pc count) f k = limit-meets B C base top flash rc a pc count f k
 
 -- ---- code that leaves, with what stands before and behind it
+-- the address of the site that a way out leads by, of the positions ss
+abbrev pub siteAt : (base : ℕ) → Way → (ss : List ℕ) → ℕ
+siteAt base w ss = (base + 4 * getD ss (siteOf w) 0) % 2 ^ 64
+
 -- the site's address matters where a chain is left by
 abbrev pub Same : Way → ℕ → ℕ → Type 0
 Same exits x y = Unit {0}
@@ -138,10 +133,27 @@ getD-front (x ∷ xs) ys zero h = refl
 getD-front (x ∷ xs) ys (suc k) h = getD-front xs ys k (omega arith)
 
 -- the k-th site is in front
-pub front-same : (base : ℕ) (w : Way) (c : Card) (xs ys : List ℕ) → Sited (off w c) xs → Same w ((base + 4 * getD xs (siteOf w) 0) % 2 ^ 64) ((base + 4 * getD (xs ++ ys) (siteOf w) 0) % 2 ^ 64)
-front-same base exits c xs ys h = tt
-front-same base (chains k) c xs ys h = ap (λ n. (base + 4 * n) % 2 ^ 64) (sym (getD-front xs ys k h))
-front-same base looksUp c xs ys h = tt
+pub front-same : (base : ℕ) (w : Way) (xs ys : List ℕ) → Has w xs → Same w (siteAt base w xs) (siteAt base w (xs ++ ys))
+front-same base exits xs ys h = tt
+front-same base (chains k) xs ys h = ap (λ n. (base + 4 * n) % 2 ^ 64) (sym (getD-front xs ys k h))
+front-same base looksUp xs ys h = tt
+
+longer : (xs ys : List ℕ) (k : ℕ) → k < length xs → k < length (xs ++ ys)
+longer xs ys k h = omega (arith, length-append xs ys)
+
+has-front : (w : Way) (xs ys : List ℕ) → Has w xs → Has w (xs ++ ys)
+has-front exits xs ys h = tt
+has-front (chains k) xs ys h = longer xs ys k h
+has-front looksUp xs ys h = tt
+
+pub aimed-front : (w : Way) (c : Card) (ts us : List ℕ) → Aimed w c ts → Aimed w c (ts ++ us)
+aimed-front exits c ts us h = tt
+aimed-front (chains k) c ts us h = (longer ts us k (h .0), getD-front ts us k (h .0) ∙ h .1)
+aimed-front looksUp c ts us h = tt
+
+-- code without sites, before code with these
+sited-behind : (r : Then) (xs ys ts us : List ℕ) → xs ≡ [] → ts ≡ [] → Sited r ys us → Sited r (xs ++ ys) (ts ++ us)
+sited-behind r xs ys ts us e f h = subst (λ l. Sited r (l ++ ys) (ts ++ us)) (sym e) (subst (λ l. Sited r ys (l ++ us)) (sym f) h)
 
 -- ---- a list of steps
 -- the cache behind
@@ -149,48 +161,50 @@ unfoldable pub cacheAfter : RegCache → List Step → RegCache
 cacheAfter rc [] = rc
 cacheAfter rc (s ∷ ss) = cacheAfter (stepCache rc s) ss
 
--- code, its sites, and what the machine between makes of it
-pub record Met (h : Helpers) (base : ℕ) (b : Block) (s0 : State) (rc : RegCache) (a : Abs) (f : Code top) (rc′ : RegCache) (r : Then) : Type 0 where
+-- code, its sites with the targets ts, and what the machine between makes of it
+pub record Met (h : Helpers) (base : ℕ) (b : Block) (s0 : State) (rc : RegCache) (a : Abs)
+    (f : Code top) (ts : List ℕ) (rc′ : RegCache) (r : Then) : Type 0 where
   pub meets : Meets h base b s0 rc a f rc′ r
-  pub sited : (p : ℕ) → Sited r (starts f p)
+  pub sited : (p : ℕ) → Sited r (starts f p) ts
 
 module _ {b : Block} {h : Helpers} {s0 : State} {base : ℕ} where
   -- two pieces in sequence
-  pub met-then : {rc rc₁ rc₂ : RegCache} {a : Abs} {f g : Code top} (r : Then) (k : Abs → Then) → Met h base b s0 rc a f rc₁ r → ((a₁ : Abs) → Met h base b s0 rc₁ a₁ g rc₂ (k a₁)) → Met h base b s0 rc a (f then g) rc₂ (thenAbs r k)
+  pub met-then : {rc rc₁ rc₂ : RegCache} {a : Abs} {f g : Code top} {ts us : List ℕ} (r : Then) (k : Abs → Then)
+      → Met h base b s0 rc a f ts rc₁ r → ((a₁ : Abs) → Met h base b s0 rc₁ a₁ g us rc₂ (k a₁))
+      → Met h base b s0 rc a (f then g) (ts ++ us) rc₂ (thenAbs r k)
   unfolding does starts
-  met-then {rc} {rc₁} {rc₂} {a} {f} {g} (go a₁) k x y = by (k a₁) (y a₁)
+  met-then {rc} {rc₁} {rc₂} {a} {f} {g} {ts} {us} (go a₁) k x y = by (k a₁) (y a₁)
     where
-      by : (r₁ : Then) → Met h base b s0 rc₁ a₁ g rc₂ r₁ → Met h base b s0 rc a (f then g) rc₂ r₁
-      by (go a₂) z = record { meets = frag-then (x .meets) (z .meets); sited = λ p. ap (λ ss. ss ++ starts g (p + words f)) (x .sited p) ∙ z .sited (p + words f) }
+      behind-f : (r₁ : Then) → Met h base b s0 rc₁ a₁ g us rc₂ r₁ → (p : ℕ) → Sited r₁ (starts f p ++ starts g (p + words f)) (ts ++ us)
+      behind-f r₁ z p = sited-behind r₁ (starts f p) (starts g (p + words f)) ts us (x .sited p .0) (x .sited p .1) (z .sited (p + words f))
+
+      by : (r₁ : Then) → Met h base b s0 rc₁ a₁ g us rc₂ r₁ → Met h base b s0 rc a (f then g) (ts ++ us) rc₂ r₁
+      by (go a₂) z = record { meets = frag-then (x .meets) (z .meets); sited = behind-f (go a₂) z }
       by (off w c) z =
           record {
             meets = record {
               leaves = λ p s i.
                   let (s₁, e, j) = x .meets .runs p s i in
-                  let q : starts f p ++ starts g (p + words f) ≡ starts g (p + words f) = ap (λ ss. ss ++ starts g (p + words f)) (x .sited p) in
-                  subst (λ o. Leaves b s0 w c ((base + 4 * getD (starts f p ++ starts g (p + words f)) (siteOf w) 0) % 2 ^ 64) (andThen o (λ s₂. does (arm h base) g (p + words f) s₂))) (sym e)
-                  (subst (λ ss. Leaves b s0 w c ((base + 4 * getD ss (siteOf w) 0) % 2 ^ 64) (does (arm h base) g (p + words f) s₁)) (sym q) (z .meets .leaves (p + words f) s₁ j));
+                  let q : ℕ = p + words f in
+                  let v : starts f p ++ starts g q ≡ starts g q = ap (λ ss. ss ++ starts g q) (x .sited p .0) in
+                  subst (λ o. Leaves b s0 w c (siteAt base w (starts f p ++ starts g q)) (andThen o (λ s₂. does (arm h base) g q s₂))) (sym e)
+                  (subst (λ ss. Leaves b s0 w c (siteAt base w ss) (does (arm h base) g q s₁)) (sym v) (z .meets .leaves q s₁ j));
             };
-            sited = λ p. subst (λ ss. Sited (off w c) ss) (sym (ap (λ ss. ss ++ starts g (p + words f)) (x .sited p))) (z .sited (p + words f));
+            sited = behind-f (off w c) z;
           }
-      by void z = record { meets = tt; sited = λ p. tt }
-  met-then {rc} {rc₁} {rc₂} {a} {f} {g} (off w c) k x y =
+      by void z = record { meets = tt; sited = behind-f void z }
+  met-then {rc} {rc₁} {rc₂} {a} {f} {g} {ts} {us} (off w c) k x y =
       record {
         meets = record {
           leaves = λ p s i.
-              leaves-as b s0 w c ((base + 4 * getD (starts f p) (siteOf w) 0) % 2 ^ 64) ((base + 4 * getD (starts f p ++ starts g (p + words f)) (siteOf w) 0) % 2 ^ 64) (andThen (does (arm h base) f p s) (λ s₁. does (arm h base) g (p + words f) s₁)) (front-same base w c (starts f p) (starts g (p + words f)) (x .sited p))
-              (leaves-front b s0 w c ((base + 4 * getD (starts f p) (siteOf w) 0) % 2 ^ 64) (does (arm h base) f p s) (λ s₁. does (arm h base) g (p + words f) s₁) (x .meets .leaves p s i));
+              let q : ℕ = p + words f in
+              let rest : State → Out State Stop top = λ s₁. does (arm h base) g q s₁ in
+              leaves-as b s0 w c (siteAt base w (starts f p)) (siteAt base w (starts f p ++ starts g q)) (andThen (does (arm h base) f p s) rest)
+              (front-same base w (starts f p) (starts g q) (x .sited p .0))
+              (leaves-front b s0 w c (siteAt base w (starts f p)) (does (arm h base) f p s) rest (x .meets .leaves p s i));
         };
-        sited = λ p. sited-front w c (starts f p) (starts g (p + words f)) (x .sited p);
+        sited = λ p. (has-front w (starts f p) (starts g (p + words f)) (x .sited p .0), aimed-front w c ts us (x .sited p .1));
       }
-    where
-      longer : (xs ys : List ℕ) (k : ℕ) → k < length xs → k < length (xs ++ ys)
-      longer xs ys k h = omega (arith, length-append xs ys)
-
-      sited-front : (w : Way) (c : Card) (xs ys : List ℕ) → Sited (off w c) xs → Sited (off w c) (xs ++ ys)
-      sited-front exits c xs ys h = tt
-      sited-front (chains k) c xs ys h = longer xs ys k h
-      sited-front looksUp c xs ys h = tt
   met-then void k x y = record { meets = tt; sited = λ p. tt }
 
 module _ {b : Block} {h : Helpers} {s0 : State} (B : Body b h s0) (C : Checked b) (base : ℕ) where
@@ -200,10 +214,19 @@ module _ {b : Block} {h : Helpers} {s0 : State} (B : Body b h s0) (C : Checked b
   abbrev limitOf : ℕ
   limitOf = R W s0 27
 
-  pub step-met : (rc : RegCache) (a : Abs) (st : Step) → StepFits st → LimitFits st a → Met h base b s0 rc a (stepCode b rc st) (stepCache rc st) (mstep b flashOf limitOf st a)
+  pub step-met : (rc : RegCache) (a : Abs) (st : Step) → StepFits st → LimitFits st a
+      → Met h base b s0 rc a (stepCode b rc st) (targets (st ∷ [])) (stepCache rc st) (mstep b flashOf limitOf st a)
   step-met rc a st f k = record { meets = step-ok B C base rc a st f k; sited = λ p. step-sited b rc p a flashOf limitOf st }
 
-  pub steps-met : (ss : List Step) → AllFit ss → AllKnown ss → (rc : RegCache) (a : Abs) → Met h base b s0 rc a (stepsCode b rc ss) (cacheAfter rc ss) (mrun b flashOf limitOf ss a)
+  -- a list of steps, with the targets that are listed for it
+  abbrev pub StepsMet : RegCache → Abs → List Step → Then → Type 0
+  StepsMet rc a ss r = Met h base b s0 rc a (stepsCode b rc ss) (targets ss) (cacheAfter rc ss) r
+
+  pub steps-met : (ss : List Step) → AllFit ss → AllKnown ss → (rc : RegCache) (a : Abs) → StepsMet rc a ss (mrun b flashOf limitOf ss a)
   unfolding stepsCode cacheAfter mrun starts
-  steps-met [] f u rc a = record { meets = frag-nil; sited = λ p. refl }
-  steps-met (s ∷ ss) f u rc a = met-then (mstep b flashOf limitOf s a) (λ a₁. mrun b flashOf limitOf ss a₁) (step-met rc a s (f .0) (unlimited s a (u .0))) (λ a₁. steps-met ss (f .1) (u .1) (stepCache rc s) a₁)
+  steps-met [] f u rc a = record { meets = frag-nil; sited = λ p. (refl, refl) }
+  steps-met (s ∷ ss) f u rc a =
+      subst (λ ts. Met h base b s0 rc a (stepsCode b rc (s ∷ ss)) ts (cacheAfter rc (s ∷ ss)) (mrun b flashOf limitOf (s ∷ ss) a))
+      (sym (targets-append (s ∷ []) ss))
+      (met-then (mstep b flashOf limitOf s a) (λ a₁. mrun b flashOf limitOf ss a₁) (step-met rc a s (f .0) (unlimited s a (u .0)))
+      (λ a₁. steps-met ss (f .1) (u .1) (stepCache rc s) a₁))

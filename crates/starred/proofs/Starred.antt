@@ -2,7 +2,6 @@
 -- Assumes nothing.
 use Prim.Native.Nat.{ℕ, _-_, _%_}
 use mathlib.Core.Path.{_≡_, refl}
-use mathlib.Core.Bool.{true}
 use mathlib.Core.List.{List, [], _∷_}
 use lib.IntN.{ℤ, pos}
 use Rattle.arm.specs.declared.Size.the-variants.{W}
@@ -12,10 +11,9 @@ use Rattle.arm.specs.declared.Extract.the-variants.{Ubfm}
 use Rattle.arm.specs.declared.Instr.{Instr}
 use Rattle.arm.specs.declared.Instr.the-variants.{Bitfield, AddSubImm}
 use Rattle.arm.specs.Instr.{encode}
-use Rattle.words.specs.Answers.{answer, numberOf, placeOf, wordOf}
+use Rattle.words.specs.Answers.{answer, Told, refused, told, wordOf}
 use Rattle.chain.specs.Link.{linked}
-use Rattle.a64.specs.Constants.{mov32Of, genAddImmOf, wordsOf}
-use Rattle.a64.specs.Sequences.{sequenceIf, sequenceWords}
+use Rattle.constants.specs.Constants.{mov32Of, genAddImmOf, wordsOf}
 use Rattle.lowering.specs.Instrs.{mov32 as mov32Instrs}
 use Rattle.lowering.specs.Fragments.{addImm}
 use Rattle.card.specs.Word.{signedOf}
@@ -38,7 +36,7 @@ allSaid [] = []
 allSaid (l ∷ ls) = l .said ∷ allSaid ls
 
 abbrev mov32 : ℕ → List ℕ
-mov32 imm = sequenceWords (sequenceIf true (wordsOf (mov32Of 0 imm)))
+mov32 imm = wordsOf (mov32Of 0 imm)
 
 -- the shift of 0 to 0, as lsl_imm's contract has it
 abbrev lsl : ℕ → List ℕ
@@ -49,7 +47,7 @@ link site body = wordOf (linked site body) ∷ []
 
 -- `Gen::add_imm` 0 to 0
 abbrev genAddImm : ℕ → List ℕ
-genAddImm imm = sequenceWords (sequenceIf true (wordsOf (genAddImmOf 0 0 imm)))
+genAddImm imm = wordsOf (genAddImmOf 0 0 imm)
 
 -- the same as the lowering defines it: its instructions, each as its word
 abbrev encoded : List Instr → List ℕ
@@ -82,17 +80,17 @@ table =
     ∷ rows cardLines
 
 pub starred : allGiven table ≡ allSaid table
-unfolding answer linked sequenceIf addImm mov32Instrs signedOf
+unfolding answer linked addImm mov32Instrs signedOf
 starred = refl
 
 -- the examples of the faults that encoders and link give: number, place, word
-abbrev faults : List Line
+abbrev faults : List (Told ℕ)
 faults =
-    (numberOf (linked (pos 0) (pos 134217728)) ∷ placeOf (linked (pos 0) (pos 134217728)) ∷ wordOf (linked (pos 0) (pos 134217728)) ∷ [] is 11 ∷ 0 ∷ 0 ∷ [])
-    ∷ (numberOf (linked (pos 2) (pos 0)) ∷ placeOf (linked (pos 2) (pos 0)) ∷ wordOf (linked (pos 2) (pos 0)) ∷ [] is 12 ∷ 0 ∷ 0 ∷ [])
-    ∷ (numberOf (answer (AddSubImm W Add Keeps 4096 0 0)) ∷ placeOf (answer (AddSubImm W Add Keeps 4096 0 0)) ∷ wordOf (answer (AddSubImm W Add Keeps 4096 0 0)) ∷ [] is 13 ∷ 0 ∷ 0 ∷ [])
+    told (linked (pos 0) (pos 134217728))
+    ∷ told (linked (pos 2) (pos 0))
+    ∷ told (answer (AddSubImm W Add Keeps 4096 0 0))
     ∷ []
 
-pub faults-given : allGiven faults ≡ allSaid faults
+pub faults-given : faults ≡ refused 11 0 0 ∷ refused 12 0 0 ∷ refused 13 0 0 ∷ []
 unfolding answer linked
 faults-given = refl

@@ -1,4 +1,4 @@
--- Steps emitted list by list: the code, the sites, the targets and the cache of one list behind another.
+-- Steps emitted list by list: the code, the sites and the cache of one list behind another.
 use mathlib.Core.Path.{_≡_, refl, sym, ap, ap₂, _∙_}
 use mathlib.Core.List.{List, [], _∷_, _++_, append-assoc, append-nil}
 use Rattle.block.specs.declared.Block.{Block}
@@ -6,7 +6,6 @@ use Rattle.code.specs.Tree.{Depth, top, Code, code, _then_, nowhere}
 use Rattle.lowering.specs.declared.RegCache.{RegCache}
 use Rattle.lowering.specs.Steps.{Step}
 use Rattle.lowering.specs.Fragments.{call, exitImm, chain, ind, hold, checkBrk, fork, limit, load, store, stepCode, stepCache, stepsCode}
-use Rattle.lowering.specs.Compile.{targets}
 use Rattle.lowering.specs.Given.{given}
 use Rattle.asm.specs.State.{State}
 use Rattle.emission.specs.Total.{afterT, startsT}
@@ -45,23 +44,6 @@ pub cache-append : (rc : RegCache) (xs ys : List Step) → cacheBehind rc (xs ++
 unfolding cacheBehind
 cache-append rc [] ys = refl
 cache-append rc (x ∷ xs) ys = cache-append (stepCache rc x) xs ys
-
-pub targets-append : (xs ys : List Step) → targets (xs ++ ys) ≡ targets xs ++ targets ys
-targets-append [] ys = refl
-targets-append (Step.ldReg t r ∷ xs) ys = targets-append xs ys
-targets-append (Step.stReg t r ∷ xs) ys = targets-append xs ys
-targets-append (Step.ldField f t ∷ xs) ys = targets-append xs ys
-targets-append (Step.stField f t ∷ xs) ys = targets-append xs ys
-targets-append (Step.mov32 t v ∷ xs) ys = targets-append xs ys
-targets-append (Step.addImm d s v ∷ xs) ys = targets-append xs ys
-targets-append (Step.ins i ∷ xs) ys = targets-append xs ys
-targets-append (Step.load w signed i ∷ xs) ys = targets-append xs ys
-targets-append (Step.store w i ∷ xs) ys = targets-append xs ys
-targets-append (Step.checkBrk glue pc count ∷ xs) ys = targets-append xs ys
-targets-append (Step.chain pc count ∷ xs) ys = ap (λ l. pc ∷ l) (targets-append xs ys)
-targets-append (Step.fork cond pc target count ∷ xs) ys = ap (λ l. pc ∷ target ∷ l) (targets-append xs ys)
-targets-append (Step.ind t count brk ∷ xs) ys = targets-append xs ys
-targets-append (Step.limit pc count ∷ xs) ys = targets-append xs ys
 
 then-is : (c d : Code top) (s : State) → afterT (c then d) nowhere 0 s ≡ afterT d nowhere 0 (afterT c nowhere 0 s)
 then-is c d s = sym (then-after nowhere 0 c d s (afterT c nowhere 0 s) (afterT d nowhere 0 (afterT c nowhere 0 s)) refl refl)

@@ -55,6 +55,7 @@ pub fn within(n: usize, buf: &[u8]) -> usize
 // The same of words.
 pub fn among(n: usize, words: &[u32]) -> usize
     ensures { λ r. ⌜ Counts r (now (words .entry)) ⌝ }
+    ensures { λ r. ⌜ r ≡ min n (length (now (words .entry))) ⌝ }
 {
     if n < words.len() { n } else { words.len() }
 }

@@ -28,15 +28,14 @@ use Rattle.translation.specs.declared.Sites.{Sites}
 use Rattle.translation.specs.declared.Translated.{Translated}
 use Rattle.translation.specs.declared.Translated.the-variants.{Accepted, Refused}
 use Rattle.translation.specs.Translation.{Told, accepted, refused, listed, told, blockTold, toldBehind, laidBehind, translation, lentAfter}
-use Rattle.translation.specs.Contract.{Sited, Runs}
-use Rattle.translation.proofs.Promises.{promised}
+use Rattle.translation.proofs.Promises.{Promised, promised}
 
 -- ---- the contract, from its first two clauses
 abbrev pub Met : (bytes lent ws : List ℕ) → Translated → Type 0
-Met bytes lent ws r = (told r ≡ translation bytes lent) × ((ws ≡ lentAfter bytes lent) × (Sited (told r) × Runs (told r) bytes ws))
+Met bytes lent ws r = (told r ≡ translation bytes lent) × ((ws ≡ lentAfter bytes lent) × Promised bytes ws (told r))
 
 met : (bytes lent ws : List ℕ) (r : Translated) → Bytes bytes → told r ≡ translation bytes lent → ws ≡ lentAfter bytes lent → Met bytes lent ws r
-met bytes lent ws r are e q = (e, (q, promised bytes lent ws r are e q))
+met bytes lent ws r are e q = (e, (q, promised bytes lent ws (told r) are e q))
 
 -- ---- the sites, out of two arrays
 pub one-site : (n : ℕ) (ps ts : List ℕ) → n ≡ 1 → length ps ≡ 2 → length ts ≡ 2 → record { at = getD ps 0 0; target = getD ts 0 0 } ∷ [] ≡ zipSites (take n ps) (take n ts)

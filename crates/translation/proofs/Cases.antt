@@ -44,9 +44,13 @@ module _ (bytes lent : List ℕ) where
   abbrev b : Block
   b = reading bytes .block
 
-  pub is-faulty : (number place : ℕ) → reading bytes .answer ≡ Fault number place → Faulty bytes lent
-  unfolding translation lentAfter toldBehind laidBehind
-  is-faulty number place e = record { number = number; place = place; fault = e; answer = rw e; words = rw e }
+  pub fault-told : (number place : ℕ) → reading bytes .answer ≡ Fault number place → translation bytes lent ≡ refused number place
+  unfolding translation toldBehind
+  fault-told number place e = rw e
+
+  is-faulty : (number place : ℕ) → reading bytes .answer ≡ Fault number place → Faulty bytes lent
+  unfolding lentAfter laidBehind
+  is-faulty number place e = record { number = number; place = place; fault = e; answer = fault-told number place e; words = rw e }
 
   pub is-short : reading bytes .answer ≡ NoFault → length lent < length (blockWords b) → Short bytes lent
   unfolding translation lentAfter toldBehind laidBehind blockTold laid

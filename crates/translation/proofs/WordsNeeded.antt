@@ -1,7 +1,7 @@
 -- The number of words that a record's block takes is the one that translation asks for, and what `words_needed` answers at each of its
 -- ends is the definition's.
 use mathlib.Core.Path.{_≡_, refl, sym, ap, subst, _∙_}
-use mathlib.Core.List.{List, [], _++_, map}
+use mathlib.Core.List.{List, _++_, map}
 use Prim.Native.Nat.{ℕ}
 use native.Mathlib.Omega.{arith}
 use lib.ListN.{length, length-map, length-append}
@@ -13,13 +13,13 @@ use Rattle.record.specs.declared.Answer.the-variants.{Accepted as NoFault, Refu
 use Rattle.record.specs.declared.Reading.{Reading}
 use Rattle.record.specs.Record.{reading}
 use Rattle.record.proofs.Accepted.{Bytes, read-checked}
-use Rattle.code.specs.Items.{size, poolOf, padOf, halves}
+use Rattle.code.specs.Items.{size, padOf, halves}
 use Rattle.lowering.specs.Compile.{blockWords}
-use Rattle.bounds.specs.Whole.{itemsOf, meant}
+use Rattle.bounds.specs.Whole.{itemsOf, meant, blockPool}
 use Rattle.bounds.proofs.Whole.{emitted}
 use Rattle.finish.specs.declared.Finished.{Finished}
 use Rattle.finish.specs.Whole.{told, countOf}
-use Rattle.finish.proofs.Cases.{halves-length}
+use Rattle.code.proofs.Reach.{halves-length}
 use Rattle.finish.proofs.Join.{count-told}
 use Rattle.translation.specs.declared.Needed.{Needed}
 use Rattle.translation.specs.Translation.{toldBehind, translation}
@@ -31,7 +31,7 @@ use Rattle.translation.proofs.Promises.{some-words}
 -- the instructions meant, the nop and the pool are all the words
 all-counted : (b : Block) → Checked b → length (blockWords b) ≡ wordsCounted b
 all-counted b ck =
-    let pool : List ℕ = poolOf [] (itemsOf b) in
+    let pool : List ℕ = blockPool b in
     let pad : List ℕ = padOf (size (itemsOf b)) pool in
     let front = length-append (map encode (meant b)) (pad ++ halves pool) in
     let behind = length-append pad (halves pool) in

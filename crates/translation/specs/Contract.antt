@@ -16,6 +16,7 @@ use Rattle.card.specs.Step.{Way}
 use Rattle.card.specs.Run.{left as leaves, run as runCard}
 use Rattle.demand.specs.Premises.{Entry, PremisesOn}
 use Rattle.demand.specs.Claim.{Meets}
+use Rattle.bounds.specs.Whole.{Emitted}
 use Rattle.translation.specs.Translation.{Told, accepted, refused}
 
 -- the sites' word positions
@@ -39,3 +40,9 @@ RunsAs ws b = (h : Helpers) (entry : Entry) (limit : ℕ) (c : Card) (s : State)
 abbrev pub Runs : Told → (bytes lent : List ℕ) → Type 0
 Runs (accepted words body ss) bytes lent = RunsAs (take words lent) (reading bytes .block)
 Runs (refused number place) bytes lent = Unit {0}
+
+-- DEMAND 2 by the Arm manual, of an accepted record's words, where they stand: outside the pool each is the encoding of the instruction
+-- meant, with each label's true distance
+abbrev pub Meant : Told → (bytes lent : List ℕ) → Type 0
+Meant (accepted words body ss) bytes lent = Emitted (take words lent) (reading bytes .block)
+Meant (refused number place) bytes lent = Unit {0}

@@ -1,16 +1,16 @@
 -- HOW MANY WORDS A RECORD'S BLOCK TAKES, from the record alone, for every list of bytes: document 02, "2026-07 Words needed, before any
 -- are written".
 use mathlib.Core.Path.{_≡_}
-use mathlib.Core.List.{List, []}
+use mathlib.Core.List.{List}
 use Prim.Native.Nat.{ℕ, _+_, _*_, _<_, _≤_}
 use lib.ListN.{length}
 use Rattle.block.specs.declared.Block.{Block}
 use Rattle.record.specs.declared.Answer.{Answer}
 use Rattle.record.specs.declared.Answer.the-variants.{Accepted as NoFault, Refused as Fault}
 use Rattle.record.specs.Record.{reading}
-use Rattle.code.specs.Items.{size, poolOf, padOf}
+use Rattle.code.specs.Items.{size, padOf}
 use Rattle.lowering.specs.Compile.{blockWords, bodyOffset, sites}
-use Rattle.bounds.specs.Whole.{itemsOf, meant}
+use Rattle.bounds.specs.Whole.{itemsOf, meant, blockPool}
 use Rattle.translation.specs.declared.Needed.{Needed}
 use Rattle.translation.specs.declared.Needed.the-variants.{Words, Refused}
 use Rattle.translation.specs.Translation.{accepted, refused, translation}
@@ -47,7 +47,7 @@ Exact (refusedWith number place) bytes = (number ≡ 10 → ⊥) × ((lent : Lis
 
 -- the instructions meant, "pool and nop included": a nop where a pool follows an odd number of them, two words for each literal
 abbrev pub wordsCounted : Block → ℕ
-wordsCounted b = length (meant b) + length (padOf (size (itemsOf b)) (poolOf [] (itemsOf b))) + 2 * length (poolOf [] (itemsOf b))
+wordsCounted b = length (meant b) + length (padOf (size (itemsOf b)) (blockPool b)) + 2 * length (blockPool b)
 
 abbrev pub Included : Need → (bytes : List ℕ) → Type 0
 Included (takes words) bytes = words ≡ wordsCounted (reading bytes .block)

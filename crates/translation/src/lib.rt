@@ -3,7 +3,7 @@ ghost use mathlib.Core.Path.{_≡_};
 ghost use Rattle.lowering.specs.Compile.{zipSites};
 ghost use Rattle.lower.specs.Lowers.{atsOf, targetsOf};
 ghost use Rattle.translation.specs.Translation.{listed, told, translation, lentAfter};
-ghost use Rattle.translation.specs.Contract.{Sited, Runs};
+ghost use Rattle.translation.specs.Contract.{Sited, Runs, Meant};
 ghost use Rattle.translation.specs.WordsNeeded.{needTold, wordsNeeded, Exact, Included};
 use finish::Finished;
 use lowering::Site;
@@ -59,6 +59,7 @@ pub fn translate(bytes: &[u8], words: &mut [u32], table: &mut [u64; 6152]) -> Tr
     ensures { λ r. ⌜ now (words .exit) ≡ lentAfter (now (bytes .entry)) (now (words .entry)) ⌝ }
     ensures { λ r. ⌜ Sited (told r) ⌝ }
     ensures { λ r. ⌜ Runs (told r) (now (bytes .entry)) (now (words .exit)) ⌝ }
+    ensures { λ r. ⌜ Meant (told r) (now (bytes .entry)) (now (words .exit)) ⌝ }
 {
     let reading = record::read(bytes);
     let answer = reading.answer;

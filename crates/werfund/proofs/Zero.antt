@@ -1,16 +1,13 @@
 -- A fault has a number from 1 on, so the number 0 says that the record is accepted, or that the words are counted.
 use mathlib.Core.Path.{_≡_, refl, subst}
-use mathlib.Core.Bool.{Bool, true, false}
 use mathlib.Core.List.{List}
-use Prim.Native.Nat.{ℕ, zero, suc, _+_, _<_}
+use Prim.Native.Nat.{ℕ, zero, suc, _<_}
 use native.Mathlib.Omega.{arith}
-use lib.Dec.{leb}
 use lib.ListN.{length}
-use Rattle.block.specs.declared.Block.{Block}
 use Rattle.record.specs.declared.Answer.{Answer}
 use Rattle.record.specs.declared.Answer.the-variants.{Accepted, Refused}
-use Rattle.record.specs.declared.Reading.{Reading}
-use Rattle.record.specs.Record.{payloadLength, payload, operationOf, lastJumps, operationFault, refusedOr, push, endOr, operations, header, layoutField, memoryField, addressesField, startField, reading}
+use Rattle.record.specs.Record.{numberOf as faultNumber, reading}
+use Rattle.record.proofs.Faults.{told}
 use Rattle.lowering.specs.Compile.{blockWords}
 use Rattle.translation.specs.Translation.{translation}
 use Rattle.translation.specs.WordsNeeded.{takes, needBehind, wordsNeeded}
@@ -21,24 +18,13 @@ abbrev Numbered : Answer → Type 0
 Numbered Accepted = Unit {0}
 Numbered (Refused number place) = 0 < number
 
-numbered-or : (f place : ℕ) (next : Reading) → Numbered (next .answer) → Numbered (refusedOr f place next .answer)
-unfolding refusedOr
-numbered-or zero place next k = k
-numbered-or (suc f) place next k = omega arith
-
-numbered-end : (t : Bool) (b : Block) (next : Reading) → Numbered (next .answer) → Numbered (endOr t b next .answer)
-numbered-end true b next k = tt
-numbered-end false b next k = k
-
-numbered-operations : (k : ℕ) (s : List ℕ) (at : ℕ) (b : Block) → Numbered (operations k s at b .answer)
-unfolding operations
-numbered-operations zero s at b = tt
-numbered-operations (suc k) s at b =
-    numbered-end (leb (length s) at) b _ (numbered-or (operationFault s at (b .n) (lastJumps (b .n) (b .ops))) at _ (numbered-operations k s (at + 3 + payloadLength s at) (push b (operationOf (payload s at)))))
-
 numbered : (s : List ℕ) → Numbered (reading s .answer)
-unfolding reading
-numbered s = numbered-or (layoutField s) 0 _ (numbered-or (memoryField s) 23 _ (numbered-or (addressesField s) 43 _ (numbered-or (startField s) 70 _ (numbered-operations 33 s 77 (header s)))))
+numbered s = by (reading s .answer) (told s .accepted)
+  where
+    by : (a : Answer) → (faultNumber a ≡ 0 → a ≡ Accepted) → Numbered a
+    by Accepted h = tt
+    by (Refused zero place) h = let e = h refl in let z : _≡_ {A = ℕ} 0 1 = cc in absurd (omega arith)
+    by (Refused (suc number) place) h = omega arith
 
 pub zero-if : (bytes lent : List ℕ) → Fits bytes lent → numberOf (translation bytes lent) ≡ 0
 zero-if bytes lent f = rw (f .answer)

@@ -4,7 +4,7 @@ ghost use lib.ListN.{set};
 ghost use Rattle.code.specs.Emit.{lay};
 ghost use Rattle.chain.specs.Link.{linked};
 ghost use Rattle.translation.specs.Translation.{accepted, listed, told, translation, lentAfter};
-ghost use Rattle.translation.specs.Contract.{Sited, Runs};
+ghost use Rattle.translation.specs.Contract.{Sited, Runs, Meant};
 ghost use Rattle.translation.specs.WordsNeeded.{needTold, wordsNeeded, Exact, Included};
 ghost use Rattle.werfund.specs.Answers.{numberOf, cellsOf, needNumber, needCells, linkAnswer};
 use translation::Needed;
@@ -94,6 +94,7 @@ pub extern "C" fn werfund_translate(
     ensures { λ r. ⌜ now (words .exit) ≡ lentAfter (now (bytes .entry)) (now (words .entry)) ⌝ }
     ensures { λ r. ⌜ Sited (translation (now (bytes .entry)) (now (words .entry))) ⌝ }
     ensures { λ r. ⌜ Runs (translation (now (bytes .entry)) (now (words .entry))) (now (bytes .entry)) (now (words .exit)) ⌝ }
+    ensures { λ r. ⌜ Meant (translation (now (bytes .entry)) (now (words .entry))) (now (bytes .entry)) (now (words .exit)) ⌝ }
 {
     let t = translation::translate(bytes, words, table);
     put_cells(answer, cells(t));

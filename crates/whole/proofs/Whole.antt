@@ -1,5 +1,5 @@
 -- AN EMITTED BLOCK is the block's words in the lent room, and its sites are the block's.
-use mathlib.Core.Path.{_≡_, refl, sym, ap, _∙_}
+use mathlib.Core.Path.{_≡_, refl, ap, _∙_}
 use mathlib.Core.List.{List}
 use Prim.Native.Nat.{ℕ}
 use native.Mathlib.Omega.{arith}
@@ -7,15 +7,15 @@ use lib.ListN.{length}
 use Rattle.block.specs.declared.Block.{Block}
 use Rattle.block.specs.Checked.{Checked}
 use Rattle.code.specs.Items.{new, bind}
-use Rattle.code.specs.Tree.{Depth, top, Var, Code, code, Fine, nowhere, words, wholeItems}
-use Rattle.code.specs.Lent.{calls}
+use Rattle.code.specs.Tree.{top, code, Fine, nowhere, wholeItems}
+use Rattle.code.specs.Calls.{calls}
 use Rattle.code.specs.Walk.{walkedWords}
 use Rattle.code.proofs.Tree.{whole-size, whole-length}
 use Rattle.code.proofs.Walk.{walked-all}
 use Rattle.lowering.specs.Fragments.{closing}
 use Rattle.lowering.specs.Compile.{blockCode, blockLines, blockWords, starts}
-use Rattle.asm.specs.State.{fixupRoom, tableRoom, State, state, begin, put, made, run, after}
-use Rattle.asm.proofs.Laws.{words-run, whole-run}
+use Rattle.asm.specs.State.{fixupRoom, tableRoom, State, state, begin, put, made, run}
+use Rattle.asm.proofs.Laws.{whole-run}
 use Rattle.emission.specs.Total.{emitted, afterT, startsT}
 use Rattle.emission.proofs.Carried.{fine-run}
 use Rattle.emission.proofs.Position.{starts-are}
@@ -24,11 +24,6 @@ use Rattle.finish.specs.Whole.{laid, told, Held}
 use Rattle.finish.proofs.Join.{patches-jumps, finished-block}
 use Rattle.bounds.specs.Whole.{Tables, Carries}
 use Rattle.bounds.proofs.Whole.{tables, carries}
-
--- code whose operands fit, emitted
-fine-after : {n : Depth} (c : Code n) (e : Var n → ℕ) (x : ℕ) (s : State) → Fine c → afterT c e x s ≡ after c e x s
-unfolding afterT after
-fine-after c e x s h = fine-run c e x (s .asm .labels) s h
 
 module _ (blk : Block) (ck : Checked blk) where
   held : Held (blockCode blk) closing
@@ -54,11 +49,11 @@ module _ (blk : Block) (ck : Checked blk) where
   module _ (lent tab : List ℕ) (s₁ : State) (p : s₁ ≡ put new (state lent tab begin)) where
     module _ (full : length tab ≡ tableRoom) (s₂ s₃ s₄ : State) (q : s₂ ≡ afterT (blockCode blk) nowhere 0 s₁) (r : s₃ ≡ put (bind 0) s₂) (t : s₄ ≡ emitted closing s₃) where
       items-run : s₄ ≡ run (wholeItems (blockCode blk) closing) (state lent tab begin)
-      unfolding Fine calls emitted
+      unfolding Fine calls emitted afterT
       items-run =
           whole-run (blockCode blk) closing (state lent tab begin) s₁ s₂ s₃ s₄ refl (omega (arith, tables blk ck .labels)) p
-          (q ∙ fine-after (blockCode blk) nowhere 0 s₁ (held .fine)) r
-          (t ∙ fine-run {n = top} (code closing) nowhere 0 0 s₃ (held .sound) ∙ sym (words-run closing s₃))
+          (q ∙ fine-run (blockCode blk) nowhere 0 (s₁ .asm .labels) s₁ (held .fine)) r
+          (t ∙ fine-run {n = top} (code closing) nowhere 0 0 s₃ (held .sound))
 
       -- THE LENT WORDS behind so many patches, and the answer
       pub whole-walked : (n : ℕ) → finishedWords n s₄ ≡ laid (walkedWords n (blockLines blk)) lent

@@ -10,7 +10,7 @@ use Rattle.arm.specs.Decode.{carried}
 use Rattle.arm.proofs.RoundTrip.{true-carried, carried-true}
 use Rattle.words.specs.declared.Encoded.{Encoded}
 use Rattle.words.specs.declared.Encoded.the-variants.{Word, Refused}
-use Rattle.words.specs.Answers.{Answers, answer, answerIf, pick, wordOf}
+use Rattle.words.specs.Answers.{Answers, answer, answerIf, pick, Told, accepted, refused, told, wordOf}
 
 answer-by : (i : Instr) (r : Encoded) (b : Bool) → (T b → Carried i) → (Carried i → T b) → Answers i r → r ≡ pick b (Word (encode i)) (Refused 13)
 answer-by i (Word w) true f g h = ap Word (h .1)
@@ -23,17 +23,17 @@ unfolding answer
 answers-is i r h = answer-by i r (carried i) (true-carried i) (carried-true i) h
 
 -- in the arm of the case p of i
-pub arm : (i p : Instr) (r : Encoded) → i ≡ p → Answers p r → r ≡ answer i
-arm i p r e h = answers-is p r h ∙ ap answer (sym e)
+pub arm : (i p : Instr) (r : Encoded) → i ≡ p → Answers p r → told r ≡ told (answer i)
+arm i p r e h = ap told (answers-is p r h ∙ ap answer (sym e))
 
 pub ruleset arms = arm
 
-pub holds : (b : Bool) (i : Instr) (r : Encoded) → b ≡ true → r ≡ answer i → r ≡ answerIf b i
+pub holds : (b : Bool) (i : Instr) (t : Told ℕ) → b ≡ true → t ≡ told (answer i) → t ≡ told (answerIf b i)
 unfolding answer answerIf
-holds true i r e h = h
-holds false i r e h = absurd (let z : _≡_ {A = ℕ} 0 1 = cc in omega arith)
+holds true i t e h = h
+holds false i t e h = absurd (let z : _≡_ {A = ℕ} 0 1 = cc in omega arith)
 
-pub fails : (b : Bool) (i : Instr) → b ≡ false → Refused 13 ≡ answerIf b i
+pub fails : (b : Bool) (i : Instr) → b ≡ false → told (Refused 13) ≡ told (answerIf b i)
 unfolding answerIf
 fails true i e = absurd (let z : _≡_ {A = ℕ} 0 1 = cc in omega arith)
 fails false i e = refl
@@ -43,8 +43,8 @@ pub class-word : (i : Instr) (e : Encoded) (w : ℕ) → w ≡ wordOf e → Answ
 class-word i e w h a = h ∙ ap wordOf (answers-is i e a)
 
 -- an answer for an operand is the answer for what the operand is
-pub with : {A : Type 0} (f : A → Encoded) {x y : A} {r : Encoded} → r ≡ f x → x ≡ y → r ≡ f y
-with f h e = h ∙ ap f e
+pub with : {A : Type 0} (f : A → Encoded) {x y : A} {t : Told ℕ} → t ≡ told (f x) → x ≡ y → t ≡ told (f y)
+with f h e = h ∙ ap (λ v. told (f v)) e
 
 pub carried-word : (i : Instr) → Carried i → answer i ≡ Word (encode i)
 unfolding answer
@@ -53,3 +53,15 @@ carried-word i h = go (carried i) (carried-true i h)
     go : (b : Bool) → T b → pick b (Word (encode i)) (Refused 13) ≡ Word (encode i)
     go true t = refl
     go false t = absurd t
+
+-- ---- `told` is one to one: who promises what is told of an answer promises the answer
+abbrev untold : Told ℕ → Encoded
+untold (accepted w) = Word w
+untold (refused n p w) = Refused n
+
+untold-told : (r : Encoded) → untold (told r) ≡ r
+untold-told (Word w) = refl
+untold-told (Refused n) = refl
+
+pub told-once : (r s : Encoded) → told r ≡ told s → r ≡ s
+told-once r s h = sym (untold-told r) ∙ ap untold h ∙ untold-told s

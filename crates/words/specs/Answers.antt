@@ -19,14 +19,17 @@ answerIf b i = pick (both b (carried i)) (Word (encode i)) (Refused 13)
 unfoldable pub answer : Instr → Encoded
 answer i = pick (carried i) (Word (encode i)) (Refused 13)
 
--- document 01's number (0: none), place and word of an answer
-abbrev pub numberOf : Encoded → ℕ
-numberOf (Word w) = 0
-numberOf (Refused n) = n
+-- ---- an answer in document 01's numbers: its word or words, or a fault's number, place and word
+pub data Told (A : Type 0) : Type 0 where
+  accepted : A → Told A
+  refused : (number place : ℕ) → A → Told A
 
-abbrev pub placeOf : Encoded → ℕ
-placeOf r = 0
+-- "their refusals give place 0 and word 0"
+abbrev pub told : Encoded → Told ℕ
+told (Word w) = accepted w
+told (Refused n) = refused n 0 0
 
+-- the word alone, and 0 where there is none
 abbrev pub wordOf : Encoded → ℕ
 wordOf (Word w) = w
 wordOf (Refused n) = 0

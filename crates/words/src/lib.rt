@@ -1,6 +1,6 @@
 // An instruction's word, or why it is refused.
 ghost use mathlib.Core.Path.{_≡_};
-ghost use Rattle.words.specs.Answers.{answer, answerIf, wordOf};
+ghost use Rattle.words.specs.Answers.{answer, answerIf, told, wordOf};
 use arm::Instr;
 
 mod classes;
@@ -32,7 +32,7 @@ pub enum Encoded {
 
 // The instruction's word, where each operand fits its field.
 pub fn encode(i: Instr) -> Encoded
-    ensures { λ r. ⌜ r ≡ answer i ⌝ }
+    ensures { λ r. ⌜ told r ≡ told (answer i) ⌝ }
 {
     match i {
         Instr::MoveWide(z, m, hw, imm16, rd) => classes::move_wide(z, m, hw, imm16, rd),
@@ -82,7 +82,7 @@ pub fn encode(i: Instr) -> Encoded
 
 // The same under a condition that stands beside the fields.
 pub fn encode_if(ok: bool, i: Instr) -> Encoded
-    ensures { λ r. ⌜ r ≡ answerIf ok i ⌝ }
+    ensures { λ r. ⌜ told r ≡ told (answerIf ok i) ⌝ }
 {
     if ok {
         return encode(i);

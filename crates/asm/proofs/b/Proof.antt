@@ -3,13 +3,12 @@ use borrow.Author.Needs.{needs}
 use mathlib.Core.Path.{refl}
 use Rattle.code.specs.Items.{b}
 use Rattle.code.specs.Emit.{kind}
-use Rattle.code.specs.Lent.{fieldNo}
 use Rattle.asm.proofs.Laws.{go-put}
 use Rattle.asm.proofs.b.Statement.{statement}
 use Rattle.asm.proofs.b.Tie as tie
 
 returns : tie.Need-returns
-unfolding kind fieldNo
+unfolding kind
 returns c = go-put b _ _ _ _ refl (c .before .before .fix .ensures)
 
 pub b-spec : {M : Type 1} → statement M

@@ -4,7 +4,7 @@ use Rattle.asm.proofs.bump.Statement.{statement}
 use Rattle.asm.proofs.bump.Tie as tie
 use borrow.Author.Tests.{lt-ltb, le-ltb}
 use native.Mathlib.Numerals.{add-one}
-use Rattle.code.specs.Lent.{bumped}
+use Rattle.code.specs.Calls.{bumped}
 
 returns : tie.Need-returns
 unfolding bumped

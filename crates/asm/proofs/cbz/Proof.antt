@@ -5,13 +5,12 @@ use Rattle.arm.specs.declared.Size.the-variants.{W}
 use Rattle.arm.specs.declared.Test.the-variants.{Zero}
 use Rattle.code.specs.Items.{cb}
 use Rattle.code.specs.Emit.{kind}
-use Rattle.code.specs.Lent.{fieldNo}
 use Rattle.asm.proofs.Laws.{go-put}
 use Rattle.asm.proofs.cbz.Statement.{statement}
 use Rattle.asm.proofs.cbz.Tie as tie
 
 returns : tie.Need-returns
-unfolding kind fieldNo
+unfolding kind
 returns c = go-put (cb W Zero (c .before .before .before .before .before .before .args .rt)) _ _ _ _ (omega arith) (c .before .before .fix .ensures)
 
 pub cbz-spec : {M : Type 1} → statement M

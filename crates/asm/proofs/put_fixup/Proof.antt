@@ -7,7 +7,7 @@ use Rattle.asm.specs.State.{fixup, packed}
 
 returns : tie.Need-returns
 unfolding fixup packed
-returns c = rw (lt-ltb _ _ (c .if1 .taken))
+returns c = rw (lt-ltb _ _ (c .before .if1 .taken), ← (c .ref-number .ensures))
 
 returns-2 : tie.Need-returns-2
 unfolding fixup packed

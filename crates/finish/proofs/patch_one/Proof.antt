@@ -1,4 +1,4 @@
--- Position, number and kind come out of the entry.
+-- Position and reference come out of the entry.
 use borrow.Author.Needs.{needs}
 use Rattle.finish.proofs.Cases.{patched-is}
 use Rattle.finish.proofs.patch_one.Statement.{statement}
@@ -6,8 +6,10 @@ use Rattle.finish.proofs.patch_one.Tie as tie
 
 returns : tie.Need-returns
 returns c =
-    patched-is _ _ _ _ _ _ _ _ _ _ (c .before .before .before .before .before .before .before .before .high .ensures) (c .before .before .before .before .before .before .before .low .ensures) (c .before .before .before .before .before .before .low2 .ensures) (c .before .before .before .before .before .target .ensures .0) (c .before .before .before .before .patch .ensures)
-    (c .before .before .patch-at .ensures)
+    let c₄ = c .before .before .before .before in
+    let c₇ = c₄ .before .before .before in
+    patched-is _ _ _ _ _ _ _ _ _ _ _ (c₇ .before .before .high .ensures) (c₇ .before .low .ensures) (c₇ .ref-of .ensures)
+    (c₄ .before .before .target .ensures .0) (c₄ .before .field-of .ensures) (c₄ .patch .ensures) (c .before .before .patch-at .ensures)
 
 pub patch-one-spec : {M : Type 1} → statement M
 patch-one-spec =
@@ -16,6 +18,7 @@ patch-one-spec =
     (λ c. search needs)
     (λ c. search needs)
     (λ c. search needs)
+    (λ c κs. search needs)
     (λ c κs. search needs)
     (λ c κs. search needs)
     (λ c κs. search needs)

@@ -1,4 +1,5 @@
--- `read` meets its contract: each field is refused or passed as the definition has it; an accepted block is checked.
+-- `read` meets its contract: each field is refused or passed as the definition has it; an accepted block is checked; number and place
+-- tell the answer.
 use borrow.Author.Needs.{needs}
 use Rattle.record.proofs.read.Statement.{statement}
 use Rattle.record.proofs.read.Tie as tie
@@ -9,13 +10,15 @@ use lib.ListN.{length}
 use mathlib.Core.List.{List}
 use Rattle.block.specs.declared.Block.{Block}
 use Rattle.block.specs.Checked.{Checked}
-use Rattle.record.specs.Record.{Reading, Accepted, reading, operations, header}
+use Rattle.record.specs.Record.{Reading, Accepted, reading, operations, header, Told}
 use Rattle.record.proofs.Accepted.{Bytes, answer-checked}
+use Rattle.record.proofs.Faults.{told}
 use Rattle.record.proofs.Steps.{refuse, pass}
 use Rattle.record.proofs.Laws.{layout-whole, memory-whole, addresses-whole, start-whole}
 
-both : (s : List ℕ) {r : Reading} → Bytes s → r ≡ reading s → (r ≡ reading s) × (r .answer ≡ Accepted → Checked (r .block))
-both s {r} h e = (e, answer-checked s r h e)
+promised : (s : List ℕ) {r : Reading} → Bytes s → r ≡ reading s
+    → (r ≡ reading s) × ((r .answer ≡ Accepted → Checked (r .block)) × Told s (r .answer))
+promised s {r} h e = (e, (answer-checked s r h e, rw e (told s)))
 
 layout-field-requires : tie.Need-layout-field-requires
 layout-field-requires c κs = search needs
@@ -26,7 +29,7 @@ refused-requires c κs = search needs
 returns : tie.Need-returns
 unfolding reading
 returns c =
-    both
+    promised
     (c .before .before .before .before .args .s .now)
     (λ i. omega (arith, c .before .before .before .shared-slice-known .given i))
     (c .refused .ensures ∙ refuse _ 0 _ (c .before .before .layout-field .ensures) (c .before .if1 .taken))
@@ -40,7 +43,7 @@ refused-requires-2 c κs = search needs
 returns-2 : tie.Need-returns-2
 unfolding reading
 returns-2 c =
-    both
+    promised
     (c .before .before .before .before .before .before .args .s .now)
     (λ i. omega (arith, c .before .before .before .before .before .shared-slice-known .given i))
     (c .refused2 .ensures
@@ -56,7 +59,7 @@ refused-requires-3 c κs = search needs
 returns-3 : tie.Need-returns-3
 unfolding reading
 returns-3 c =
-    both
+    promised
     (c .before .before .before .before .before .before .before .before .args .s .now)
     (λ i. omega (arith, c .before .before .before .before .before .before .before .shared-slice-known .given i))
     (c .refused3 .ensures
@@ -73,7 +76,7 @@ refused-requires-4 c κs = search needs
 returns-4 : tie.Need-returns-4
 unfolding reading
 returns-4 c =
-    both
+    promised
     (c .before .before .before .before .before .before .before .before .before .before .args .s .now)
     (λ i. omega (arith, c .before .before .before .before .before .before .before .before .before .shared-slice-known .given i))
     (c .refused4 .ensures
@@ -101,7 +104,7 @@ read-operations-requires c κs = (
 returns-5 : tie.Need-returns-5
 unfolding reading
 returns-5 c =
-    both
+    promised
     (c .before .before .before .before .before .before .before .before .before .before .before .args .s .now)
     (λ i. omega (arith, c .before .before .before .before .before .before .before .before .before .before .shared-slice-known .given i))
     (c .read-operations .ensures

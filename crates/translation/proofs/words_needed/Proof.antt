@@ -18,7 +18,7 @@ returns-2 c =
     let read = accepted .before .before in
     let known = read .before .shared-slice-known .given in
     let e = accepted .enum-told .given .1 in
-    let words = compiled .compile .ensures (read .read .ensures .1 e) .0 in
+    let words = compiled .compile .ensures (read .read .ensures .1 .0 e) .0 in
     figured-words _ _ (λ i. omega (arith, known i)) (read .read .ensures .0) _ _ _ e words (c .count .ensures)
 
 pub words-needed-spec : {M : Type 1} → statement M

@@ -2,7 +2,7 @@
 use borrow.Author.Needs.{needs}
 use mathlib.Core.Path.{ap, subst, _∙_}
 use Rattle.code.specs.Emit.{lay}
-use Rattle.translation.specs.Contract.{Sited, Runs}
+use Rattle.translation.proofs.Promises.{Promised}
 use Rattle.werfund.specs.Answers.{numberOf, cellsOf}
 use Rattle.werfund.proofs.werfund_translate.Statement.{statement}
 use Rattle.werfund.proofs.werfund_translate.Tie as tie
@@ -17,7 +17,7 @@ returns c =
       c .number .ensures ∙ ap numberOf is,
       (
         put .put-cells .ensures ∙ ap (λ l. lay l (a .answer .now)) (put .before .cells .ensures ∙ ap cellsOf is),
-        (behind .0, (subst Sited is (behind .1 .0), subst (λ x. Runs x (a .bytes .now) (told .translate .last .1 .0)) is (behind .1 .1))),
+        (behind .0, subst (Promised (a .bytes .now) (told .translate .last .1 .0)) is (behind .1)),
       ),
     )
 

@@ -5,7 +5,7 @@ use Rattle.record.proofs.fields.memory_fault.Tie as tie
 use mathlib.Core.Path.{sym, ap₂, _∙_}
 use borrow.Author.Tests.{lt-ltb, le-ltb}
 use Rattle.record.specs.Record.{regionFault, memoryFault}
-use Rattle.record.proofs.Laws.{then-none, then-some}
+use Rattle.operands.proofs.Laws.{then-none, then-some}
 
 get32-requires : tie.Need-get32-requires
 get32-requires c κs = search needs

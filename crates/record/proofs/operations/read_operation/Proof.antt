@@ -7,8 +7,8 @@ use native.Mathlib.Omega.{arith}
 use borrow.Author.Tests.{le-leb, lt-leb, eq-eqb, ne-eqb}
 use Prim.Native.Nat.{ℕ}
 use mathlib.Core.List.{List}
+use Rattle.operands.specs.Rows.{judged}
 use Rattle.record.specs.Record.{contentsFault, operationOf, operationFault}
-use Rattle.record.specs.Rows.{judged}
 use Rattle.record.proofs.Laws.{not-cut, payload-range}
 
 cut-requires : tie.Need-cut-requires
@@ -60,19 +60,19 @@ cast-end c = search needs
 add-end : tie.Need-add-end
 add-end c = search needs
 
-sub-contents : tie.Need-sub-contents
-sub-contents c = search needs
+sub-decode : tie.Need-sub-decode
+sub-decode c = search needs
 
-part-contents-start : tie.Need-part-contents-start
-part-contents-start c = search needs
+part-decode-start : tie.Need-part-decode-start
+part-decode-start c = search needs
 
-part-contents-end : tie.Need-part-contents-end
-part-contents-end c =
+part-decode-end : tie.Need-part-decode-end
+part-decode-end c =
     let e = sym (c .before .before .before .before .before .before .cut .ensures) ∙ c .before .before .before .before .before .if1 .left in
     omega (arith, not-cut (c .before .before .before .before .before .before .before .before .args .s .now) (c .before .before .before .before .before .before .before .before .args .at) e .inside, c .get16 .ensures .0)
 
-contents-requires : tie.Need-contents-requires
-contents-requires c κs = search needs
+decode-requires : tie.Need-decode-requires
+decode-requires c κs = search needs
 
 returns-5 : tie.Need-returns-5
 unfolding operationFault
@@ -87,7 +87,7 @@ returns-5 c =
       lt-leb _ _ (c .before .before .before .before .if3 .left),
       c .before .before .before .if4 .left,
     )
-    (c .contents .ensures ∙ ap (λ (q : List ℕ). judged (contentsFault q) (operationOf q)) (payload-range (c .before .before .before .before .before .before .before .before .before .before .args .s .now) (c .before .before .before .before .before .before .before .before .before .before .args .at) _ (c .before .before .get16 .ensures .0)))
+    (c .decode .ensures ∙ ap (λ (q : List ℕ). judged (contentsFault q) (operationOf q)) (payload-range (c .before .before .before .before .before .before .before .before .before .before .args .s .now) (c .before .before .before .before .before .before .before .before .before .before .args .at) _ (c .before .before .get16 .ensures .0)))
 
 pub read-operation-spec : {M : Type 1} → statement M
 read-operation-spec =
@@ -104,8 +104,8 @@ read-operation-spec =
     get16-requires
     cast-end
     add-end
-    sub-contents
-    part-contents-start
-    part-contents-end
-    contents-requires
+    sub-decode
+    part-decode-start
+    part-decode-end
+    decode-requires
     returns-5)

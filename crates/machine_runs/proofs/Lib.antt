@@ -1,0 +1,10 @@
+pub mod Moves
+pub mod Arith
+pub mod Logic
+pub mod Bitfield
+pub mod Select
+pub mod Memory
+pub mod Control
+pub mod Calls
+pub mod Regions
+pub mod Words

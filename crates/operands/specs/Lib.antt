@@ -1,0 +1,4 @@
+pub mod Kinds
+pub mod Numbers
+pub mod Operation
+pub mod Rows

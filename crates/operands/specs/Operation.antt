@@ -1,0 +1,48 @@
+-- The payload of a field 05, from document 01's "The block record" and "Faults, in order": kind, guest length, glue, operands. A fault's
+-- number is 0 where there is none.
+use mathlib.Core.Bool.{Bool, true, false, not, _&&_}
+use mathlib.Core.List.{List, [], _∷_}
+use Prim.Native.Nat.{ℕ, zero, suc, _+_, _*_}
+use lib.Dec.{leb, ltb, eqb}
+use lib.ListN.{length}
+use Rattle.block.specs.declared.BOp.{BOp}
+use Rattle.operands.specs.Kinds.{Class, fits, flagOf, kinds, kindAt, fastOf}
+use Rattle.operands.specs.Numbers.{byteAt, num32}
+
+-- ---- faults, the first that holds
+
+infix 60 _gives_
+abbrev pub _gives_ : Bool → ℕ → ℕ
+true gives n = n
+false gives n = 0
+
+infixr 50 _then_
+abbrev pub _then_ : ℕ → ℕ → ℕ
+zero then m = m
+suc n then m = suc n
+
+-- ---- field 05: kind, guest length, glue, operands
+
+abbrev pub operand : List ℕ → ℕ → ℕ
+operand p i = num32 p (3 + 4 * i)
+
+-- the operands of a payload; no kind has more than six
+abbrev pub operands : List ℕ → List ℕ
+operands p = operand p 0 ∷ operand p 1 ∷ operand p 2 ∷ operand p 3 ∷ operand p 4 ∷ operand p 5 ∷ []
+
+-- the operands from the i-th on, left to right
+abbrev pub operandsFit : List Class → List ℕ → ℕ → Bool
+operandsFit [] p i = true
+operandsFit (c ∷ cs) p i = fits c (operand p i) && operandsFit cs p (suc i)
+
+-- kind, length, glue, operands
+unfoldable pub contentsFault : List ℕ → ℕ
+contentsFault p =
+    ltb (length p) 3 gives 2
+    then leb (length kinds) (byteAt p 0) gives 3
+    then not (eqb (length p) (3 + 4 * length (kindAt (byteAt p 0) .operands))) gives 2
+    then ltb 1 (byteAt p 2) gives 4
+    then not (operandsFit (kindAt (byteAt p 0) .operands) p 0) gives 4
+
+unfoldable pub operationOf : List ℕ → BOp
+operationOf p = record { fast = fastOf (byteAt p 0) (operands p); len = byteAt p 1; glue = flagOf (byteAt p 2) }

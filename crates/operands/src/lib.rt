@@ -1,0 +1,65 @@
+// The operand decoder: the payload of a field 05, read to an operation or to the number of its fault.
+ghost use mathlib.Core.Path.{_≡_};
+ghost use Rattle.operands.specs.Operation.{operands, contentsFault, operationOf};
+ghost use Rattle.operands.specs.Rows.{judged};
+
+mod numbers;
+mod rows;
+mod selectors;
+
+use crate::rows::row_of;
+use block::BOp;
+pub use numbers::byte;
+pub use numbers::get16;
+pub use numbers::get32;
+pub use numbers::get64;
+
+// An operation, or the number of its fault.
+pub enum Operation {
+    Fault(u32),
+    Good(BOp),
+}
+
+// As many numbers as a kind may have.
+fn operands_of(p: &[u8]) -> [u32; 6]
+    ensures { λ r. ⌜ r ≡ operands (now (p .entry)) ⌝ }
+{
+    [
+        get32(p, 3),
+        get32(p, 7),
+        get32(p, 11),
+        get32(p, 15),
+        get32(p, 19),
+        get32(p, 23),
+    ]
+}
+
+// Kind, guest length, glue and operands of a payload, which is lent as a part of the record: `&s[from..end]`.
+pub fn decode(p: &[u8]) -> Operation
+    ensures { λ r. ⌜ r ≡ judged (contentsFault (now (p .entry))) (operationOf (now (p .entry))) ⌝ }
+{
+    if p.len() < 3 {
+        return Operation::Fault(2);
+    }
+    let kind = byte(p, 0);
+    if 40 <= kind {
+        return Operation::Fault(3);
+    }
+    let row = row_of(kind, operands_of(p));
+    if p.len() != 3 + 4 * row.count {
+        return Operation::Fault(2);
+    }
+    let glue = byte(p, 2);
+    if 1 < glue {
+        return Operation::Fault(4);
+    }
+    if !row.fit {
+        return Operation::Fault(4);
+    }
+    let fast = row.fast;
+    Operation::Good(BOp {
+        fast,
+        len: byte(p, 1),
+        glue: glue != 0,
+    })
+}
