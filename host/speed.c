@@ -3,7 +3,7 @@
  *     speed ROUNDS LENT
  *     speed ROUNDS needed
  *
- * Each round translates every record once, with LENT words lent, at most 16,384, or counts its words. Prints the number of records, how many of
+ * Each round translates every record once, with LENT words lent, at most 32,768, or counts its words. Prints the number of records, how many of
  * them were accepted, the number of their words, and the nanoseconds of a call on average.
  */
 #define _POSIX_C_SOURCE 199309L
@@ -14,7 +14,7 @@
 
 #include "werfund.h"
 
-enum { RECORDS = 1 << 12, BYTES = 1 << 22, WORDS = 1 << 14 };
+enum { RECORDS = 1 << 12, BYTES = 1 << 22, WORDS = 1 << 15 };
 
 /* The records, one behind the other, and where each starts. */
 static uint8_t bytes[BYTES];

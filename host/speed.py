@@ -2,8 +2,8 @@
 
     python3 host/speed.py tests/oracle ORACLE
 
-tests/oracle draws the records, and ORACLE is the program that its build.py makes (docs/vectors.md). Needs rt, gcc, objdump and valgrind. Prints
-Markdown.
+tests/oracle draws the records, and ORACLE is the program that its build.py makes (docs/vectors.md), with the options of tools/block_cases.py. Needs
+rt, gcc, objdump and valgrind. Prints Markdown.
 
 Instructions are callgrind's, of `werfund_translate` and `werfund_words_needed` in the static library and of `main::jit::compile` in the oracle
 with all that they call, on the same records. Times are of a call in a loop, the least of 15 runs that all measurements make by turns. The parts
@@ -20,11 +20,16 @@ import subprocess
 import sys
 import tempfile
 
+sys.dont_write_bytecode = True
 TOP = os.path.dirname(os.path.dirname(os.path.abspath(__file__)))
+sys.path.insert(0, os.path.join(TOP, "tools"))
+from block_cases import OPTIONS
+
 LIBRARY = os.path.join(TOP, "target/staticlib/libwerfund.a")
 SPEED = os.path.join(TOP, "target/host/speed")
 HEAD = 77
-LENT = 16384
+LENT = 32768  # more than any block takes
+BASE = 39  # the last kind of document 01
 
 
 def run(command, lines=()):
@@ -45,12 +50,19 @@ def fields(record):
     return found
 
 
-def longest():
-    """The record of the frozen cases whose block has most words, and their number."""
+def cut(records, n):
+    """The records, cut behind so many operations, a line each."""
+    return [(r[:HEAD] + b"".join(fields(r)[:n])).hex() for r in records]
+
+
+def longest(last):
+    """Of the frozen cases whose kinds are at most `last`, the record whose block has most words, and their number."""
     cases, at, best = open(os.path.join(TOP, "crates/blockcases/stdin"), "rb").read(), 0, (0, b"")
     while at < len(cases):
         size, words, length = (struct.unpack_from("<I", cases, at + k)[0] for k in (0, 16, 56))
-        best = max(best, (words, cases[at + 60 : at + 60 + length]))
+        record = cases[at + 60 : at + 60 + length]
+        if best[0] < words and all(f[3] <= last for f in fields(record)):
+            best = words, record
         at += 4 + size
     return best[1], best[0]
 
@@ -187,6 +199,20 @@ def row(*cells):
     print("| " + " | ".join(c if isinstance(c, str) else f"{c:,.0f}" for c in cells) + " |", flush=True)
 
 
+def growth(records, rust):
+    """A row for so many operations of the records, with what one more costs."""
+    row("Operations", "Words", "`translate`, instructions", "for an operation more", "Rust, instructions", "for an operation more")
+    row("---:", "---:", "---:", "---:", "---:", "---:")
+    before = None
+    for n in (1, 2, 4, 8, 16, 32):
+        lines = cut(records, n)
+        words = int(run([SPEED, "1", str(LENT)], lines).stdout.split()[2]) / len(lines)
+        now = (n, ours(lines), rust(lines))
+        more = [(now[k] - before[k]) / (n - before[0]) if before else "" for k in (1, 2)]
+        row(n, words, now[1], more[0], now[2], more[1])
+        before = now
+
+
 def main():
     if len(sys.argv) != 3:
         sys.exit(__doc__)
@@ -196,58 +222,65 @@ def main():
     run(["gcc", "-std=c99", "-O2", "-Wl,-z,now", "host/speed.c", LIBRARY, "-o", SPEED])
 
     def rust(lines, function="main::jit::compile"):
-        return instructions(function, [oracle, "--hex"], lines)
+        return instructions(function, [oracle, *OPTIONS, "--hex"], lines)
 
     def rust_time(lines, rounds):
-        return [oracle, "--time", str(rounds)], lines, r"(\d+) ns per compile"
+        return [oracle, *OPTIONS, "--time", str(rounds)], lines, r"(\d+) ns per compile"
 
-    drawn = run([sys.executable, os.path.join(directory, "blocks.py"), "speed", "1000"]).stdout.split()
-    behind = [line + "05" for line in drawn]
-    empty = [open(os.path.join(TOP, "crates/blockwords/stdin"), "rb").read().hex()] * 100
-    record, words = longest()
-    long = [record.hex()] * 100
-    full = [bytes.fromhex(line) for line in drawn]
-    full = [r for r in full if len(fields(r)) == 32]
+    def drawn(*options):
+        return run([sys.executable, os.path.join(directory, "blocks.py"), "speed", "1000", *options]).stdout.split()
 
-    sets = ("1,000 drawn", drawn, 50), ("the empty block, 35 words", empty, 5000), (f"the longest block, {words:,} words", long, 50)
-    times = [time(lines, rounds) for _, lines, rounds in sets for time in (our_time, rust_time)]
-    times += [our_time(behind, 50, 0), our_time(drawn, 50, 0)]
-    times = least(times + [our_time(lines, rounds, "needed") for _, lines, rounds in sets])
+    last = int(OPTIONS[OPTIONS.index("--kinds") + 1])
+    base, every = drawn(), drawn("--kinds", str(last))
+    empty = open(os.path.join(TOP, "crates/blockwords/stdin"), "rb").read()
+    (long_base, words_base), (long, words) = longest(BASE), longest(last)
+    sets = (
+        (f"1,000 drawn, kinds 0 to {BASE}", base, 50),
+        (f"1,000 drawn, kinds 0 to {last}", every, 50),
+        ("the empty block, 35 words", [empty.hex()] * 100, 5000),
+        (f"the longest block, {words:,} words", [long.hex()] * 100, 10),
+        (f"the longest of kinds 0 to {BASE}, {words_base:,} words", [long_base.hex()] * 100, 50),
+    )
+    parted = [(name, lines, [line + "05" for line in lines], rounds) for name, lines, rounds in sets[:2]]
+    times = least(
+        [our_time(lines, rounds) for _, lines, rounds in sets]
+        + [rust_time(lines, rounds) for _, lines, rounds in sets]
+        + [our_time(lines, rounds, "needed") for _, lines, rounds in sets]
+        + [our_time(part, rounds, 0) for _, lines, behind, rounds in parted for part in (behind, lines)]
+    )
+    spent, rust_spent, counted, parts = (times[k * len(sets) : (k + 1) * len(sets)] for k in range(4))
 
     print(f"{machine()}\n")
     print("Instructions and nanoseconds a record:\n")
     row("Records", "`translate`, instructions", "Rust, instructions", "`translate`, ns", "Rust, ns")
     row("---", "---:", "---:", "---:", "---:")
     translated = [ours(lines) for _, lines, _ in sets]
-    for k, (name, lines, _) in enumerate(sets):
-        row(name, translated[k], rust(lines), times[2 * k], times[2 * k + 1])
+    compiled = [rust(lines) for _, lines, _ in sets]
+    for k, (name, _, _) in enumerate(sets):
+        row(name, translated[k], compiled[k], spent[k], rust_spent[k])
 
     print("\nThe words counted, before any are lent:\n")
     row("Records", "`words_needed`, instructions", "`translate`, instructions", "`words_needed`, ns", "`translate`, ns")
     row("---", "---:", "---:", "---:", "---:")
     for k, (name, lines, _) in enumerate(sets):
-        row(name, our_count(lines), translated[k], times[8 + k], times[2 * k])
+        row(name, our_count(lines), translated[k], counted[k], spent[k])
 
-    print("\nThe parts, on the 1,000 drawn records:\n")
-    counts = apart(ours(behind, 0), ours(drawn, 0), ours(drawn))
-    spent = apart(times[6], times[7], times[0])
-    read, whole, finish = (rust(drawn, f) for f in ("main::record::read", "main::jit::compile", "main::jit_a64::Asm::finish"))
-    row("Part", "`translate`, instructions", "`translate`, ns", "Rust, instructions")
-    row("---", "---:", "---:", "---:")
-    for k, part in enumerate(("read", "lower", "finish", "whole")):
-        row(part, counts[k], spent[k], (f"{read:,.0f}, of the oracle's own reader", whole - finish, finish, f"{whole:,.0f}, without read")[k])
+    for k, (name, lines, behind, _) in enumerate(parted):
+        print(f"\nThe parts, {name}:\n")
+        counts = apart(ours(behind, 0), ours(lines, 0), translated[k])
+        ns = apart(parts[2 * k], parts[2 * k + 1], spent[k])
+        read, finish = (rust(lines, f) for f in ("main::record::read", "main::jit_a64::Asm::finish"))
+        others = f"{read:,.0f}, of the oracle's own reader", compiled[k] - finish, finish, f"{compiled[k]:,.0f}, without read"
+        row("Part", "`translate`, instructions", "`translate`, ns", "Rust, instructions")
+        row("---", "---:", "---:", "---:")
+        for cells in zip(("read", "lower", "finish", "whole"), counts, ns, others):
+            row(*cells)
 
+    full = [r for r in map(bytes.fromhex, every) if len(fields(r)) == 32]
     print(f"\nGrowth, on the {len(full)} drawn records of 32 operations, cut behind so many:\n")
-    row("Operations", "Words", "`translate`, instructions", "for an operation more", "Rust, instructions", "for an operation more")
-    row("---:", "---:", "---:", "---:", "---:", "---:")
-    before = None
-    for n in (1, 2, 4, 8, 16, 32):
-        lines = [(r[:HEAD] + b"".join(fields(r)[:n])).hex() for r in full]
-        words = int(run([SPEED, "1", str(LENT)], lines).stdout.split()[2]) / len(lines)
-        now = (n, ours(lines), rust(lines))
-        more = [(now[k] - before[k]) / (n - before[0]) if before else "" for k in (1, 2)]
-        row(n, words, now[1], more[0], now[2], more[1])
-        before = now
+    growth(full, rust)
+    print("\nGrowth, on the longest block, cut behind so many:\n")
+    growth([long], rust)
 
     print("\nStack, in bytes:\n")
     own, of = stack()

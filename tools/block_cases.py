@@ -1,12 +1,11 @@
 """Cases for the program blockcases: records with the oracle's answers, every word of them.
 
-    python3 tools/block_cases.py ORACLE OUT [--public RECORDS_TXT] [--drawn FILE].. [--edge FILE].. [--cut FILE].. [OPTION..]
+    python3 tools/block_cases.py ORACLE OUT [--public RECORDS_TXT] [--drawn FILE].. [--edge FILE].. [--cut FILE]..
 
 RECORDS_TXT is the oracle's vectors/public/records.txt, which has the numbers of lent words. A FILE has a record a line in hexadecimal, as
-blocks.py prints it, and 16,384 words are lent. With --edge each accepted record comes twice: with as many words lent as it needs, and with
-one less. With --cut it comes cut at each of its first 400 bytes, and with each of these set to 0, 1, 5, 16, 255 and to its
-neighbour. The answers are ORACLE's, and how many words a block takes is ORACLE's too, by --sizes. Any other OPTION (--kinds 44) is
-handed to ORACLE.
+blocks.py prints it, and 16,384 words are lent. With --edge each record that has no fault comes twice: with as many words lent as it needs,
+and with one less. With --cut it comes cut at each of its first 400 bytes, and with each of these set to 0, 1, 5, 16, 255 and to its
+neighbour. The answers are ORACLE's, with OPTIONS, and how many words a block takes is ORACLE's too, by --sizes.
 
 OUT is a run of cases. A case is numbers of 32 bits, little-endian, and the record's bytes:
 
@@ -23,8 +22,14 @@ Records of more than 4,096 bytes, which only `blockwords` looks at, are left out
 import argparse
 import struct
 import subprocess
+import sys
+from pathlib import Path
 
 LENT = 16384
+AT_ONCE = 1000  # cases
+
+# The oracle's options with the change requests that have landed (tests/oracle/README.md); a request that has one of its own adds it.
+OPTIONS = ["--kinds", "44"]
 
 
 def public(path):
@@ -35,9 +40,17 @@ def public(path):
             yield int(lent), bytes.fromhex(record.strip("-"))
 
 
-def drawn(path):
-    """The records of a file, with the words that are lent."""
-    return ((LENT, bytes.fromhex(line)) for line in open(path).read().splitlines())
+def read(path):
+    """The records of a file."""
+    return [bytes.fromhex(line) for line in open(path).read().splitlines()]
+
+
+def draw(folder, command):
+    """The records that `blocks.py ..`, of the oracle's folder, or `pressure.py ..` prints."""
+    tool, *words = command.split()
+    beside = Path(__file__).parent / tool
+    command = [sys.executable, str(beside if beside.is_file() else folder / tool)] + words
+    return [bytes.fromhex(line) for line in subprocess.run(command, capture_output=True, text=True, check=True).stdout.splitlines()]
 
 
 def asked(command, records):
@@ -64,19 +77,24 @@ def needs(oracle, records):
     return [((int(a[1]), int(a[2]), 0), 0) if a[0] == "refused" else ((0, 0, int(a[0])), int(a[3])) for a in answers]
 
 
-def edge(oracle, path):
-    """Accepted records with as many words lent as they need, and with one less."""
-    for _, record, listing in answered(oracle, drawn(path)):
-        if listing[0][0] == "words":
-            yield from ((int(listing[0][1]) - k, record) for k in (0, 1))
+def drawn(oracle, records):
+    """The records, with the words that are lent."""
+    return [(LENT, record) for record in records]
 
 
-def cut(path):
+def edge(oracle, records):
+    """Those of the records that have no fault, with as many words lent as they need, and with one less."""
+    for record, ((fault, _, words), _) in zip(records, needs(oracle, records)):
+        if not fault:
+            yield from ((words - k, record) for k in (0, 1))
+
+
+def cut(oracle, records):
     """Records cut at each of their first 400 bytes, and with each of these set to other numbers."""
-    for lent, record in drawn(path):
+    for record in records:
         for i, byte in enumerate(record[:400]):
-            yield lent, record[:i]
-            yield from ((lent, record[:i] + bytes([v]) + record[i + 1 :]) for v in (0, 1, 5, 16, 255, byte ^ 1))
+            yield LENT, record[:i]
+            yield from ((LENT, record[:i] + bytes([v]) + record[i + 1 :]) for v in (0, 1, 5, 16, 255, byte ^ 1))
 
 
 def cases(oracle, pairs):
@@ -112,30 +130,40 @@ def counts(found):
     return len(found), refused, sum(int(c[2][0][1]) for c in found if c[2][0][0] == "words")
 
 
+def told(counts):
+    """What the program writes where none differs."""
+    return "cases {}\nrefused {}\nwords {}\ndifferent 0\n".format(*counts)
+
+
+def write(oracle, pairs, file):
+    """Writes the cases of the pairs, and gives their counts."""
+    total = [0, 0, 0]
+    for i in range(0, len(pairs), AT_ONCE):
+        found = cases(oracle, pairs[i : i + AT_ONCE])
+        file.write(b"".join(case(*c[:4]) for c in found))
+        total = [x + y for x, y in zip(total, counts(found))]
+    return total
+
+
+# How records become pairs of lent words and a record.
+WAYS = {"drawn": drawn, "edge": edge, "cut": cut}
+
+
 def main():
     arguments = argparse.ArgumentParser()
     arguments.add_argument("oracle")
     arguments.add_argument("out")
     arguments.add_argument("--public")
-    arguments.add_argument("--drawn", action="append", default=[])
-    arguments.add_argument("--edge", action="append", default=[])
-    arguments.add_argument("--cut", action="append", default=[])
-    a, options = arguments.parse_known_args()
-    oracle = [a.oracle] + options
+    for way in WAYS:
+        arguments.add_argument("--" + way, action="append", default=[])
+    a = arguments.parse_args()
+    oracle = [a.oracle] + OPTIONS
     pairs = list(public(a.public)) if a.public else []
-    for path in a.drawn:
-        pairs += drawn(path)
-    for path in a.edge:
-        pairs += edge(oracle, path)
-    for path in a.cut:
-        pairs += cut(path)
-    total = [0, 0, 0]
+    for way, of in WAYS.items():
+        for path in getattr(a, way):
+            pairs += of(oracle, read(path))
     with open(a.out, "wb") as f:
-        for i in range(0, len(pairs), 1000):
-            found = cases(oracle, pairs[i : i + 1000])
-            f.write(b"".join(case(*c[:4]) for c in found))
-            total = [x + y for x, y in zip(total, counts(found))]
-    print("cases {}\nrefused {}\nwords {}\ndifferent 0".format(*total))
+        print(told(write(oracle, pairs, f)), end="")
 
 
 if __name__ == "__main__":

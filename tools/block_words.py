@@ -2,28 +2,23 @@
 
     python3 tools/block_words.py ORACLE FILE.. > BLOCKS
 
-A FILE has a record a line in hexadecimal, as blocks.py prints it. For each that ORACLE accepts, with 16,384 words lent, a line: the record, and
-the words, a space between each.
+A FILE has a record a line in hexadecimal, as blocks.py prints it. For each that ORACLE accepts, with more words lent than any block takes, a
+line: the record, and the words, a space between each.
 """
-import subprocess
 import sys
 
-LENT = "16384"
+sys.dont_write_bytecode = True
+import block_cases
+
+LENT = 32768
 
 
 def main():
     oracle, *files = sys.argv[1:]
-    records = [line.strip() for path in files for line in open(path)]
-    asked = "".join(r + "\n" for r in records)
-    said = subprocess.run([oracle, "--hex", "--lent", LENT], input=asked, capture_output=True, text=True, check=True).stdout
-    listings = said.split(".\n")[:-1]
-    assert len(listings) == len(records)
-    for record, listing in zip(records, listings):
-        lines = [line.split() for line in listing.splitlines()]
-        if lines[0][0] == "words":
-            words = [w for line in lines[1:] if line[0] != "site" for w in line]
-            assert len(words) == int(lines[0][1])
-            print(record, *words)
+    pairs = [(LENT, record) for path in files for record in block_cases.read(path)]
+    for _, record, listing in block_cases.answered([oracle] + block_cases.OPTIONS, pairs):
+        if listing[0][0] == "words":
+            print(record.hex(), *(w for line in listing[1:] if line[0] != "site" for w in line))
 
 
 main()

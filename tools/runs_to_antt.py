@@ -2,14 +2,16 @@
 
     python3 tools/runs_to_antt.py RUNS LISTING OUT [--per N] [--groups FILE]
 
-RUNS is a file of runs in the format of its own README, with `readruns.py` beside it. LISTING is a program that prints a record's
-listing as document 01's blockwords does; it tells the order of a block's chain sites. OUT is the `proofs` folder of card_runs, or of a
-copy; it gets a file for each N runs, with a row a run and one equation, and `Lib.antt`. FILE names the runs that are wanted, by groups: a
-line `Name: what it holds` starts a file, the lines behind it name its runs. The crate's own files are those of tools/card_runs.txt.
+RUNS is a file of runs in the format of its own README, with `readruns.py` beside it, or the folder of all such files. LISTING is a command
+that prints a record's listing as document 01's blockwords does; it tells the order of a block's chain sites. OUT is the `proofs` folder of
+card_runs, or of a copy; it gets a file for each N runs, with a row a run and one equation, and `Lib.antt`. FILE names the runs that are
+wanted, by groups: a line `Name: what it holds` starts a file, the lines behind it name its runs. The crate's own files are those of
+tools/card_runs.txt.
 """
 import argparse
 import os
 import re
+import shlex
 import subprocess
 import sys
 
@@ -27,8 +29,12 @@ WIDTHS = {1: "B8", 2: "B16", 4: "B32"}
 FORMS = {0: "", 1: "nn", 2: "nn", 3: "nnn", 4: "nnn", 5: "nnn", 6: "nnno", 7: "nnno", 8: "nno", 9: "nno", 10: "nnorn", 11: "nnpf",
          12: "nnnc", 13: "nnu", 14: "nnnd", 15: "nnnn", 16: "nnn", 17: "nnnnf", 18: "nnnn", 19: "n", 20: "nn", 21: "nbnwf", 22: "nbnw",
          23: "nnnnwf", 24: "nnnnw", 25: "nnwfn", 26: "nnwn", 27: "nwmnn", 28: "", 29: "", 30: "nnqn", 31: "nnqn", 32: "nqnn", 33: "nrfnn",
-         34: "n", 35: "n", 36: "", 37: "n", 38: "n", 39: ""}
+         34: "n", 35: "n", 36: "", 37: "n", 38: "n", 39: "", 40: "nnfff", 41: "n", 42: "n", 43: "nbn", 44: "nbn"}
 TABLES = {"o": OPS, "m": RMW, "q": CONDS, "r": RK, "p": PARTS, "c": CHOICES, "u": UN, "d": DIV}
+
+# what the groups go through, to be unfolded: of the card, and of the block
+WALKS = {"BlockMove": ("loadAll storeAll", "places"), "PushRets": ("pushAll", "upFrom"), "PopPc": ("popAll", "upFrom"), "LdPair": ("loadAll", ""),
+         "StPair": ("storeAll", "")}
 
 
 def flag(v):
@@ -92,7 +98,7 @@ def request(q):
 
 def site(run, listing):
     """The number of the chain site that the run leaves by, in order of position."""
-    out = subprocess.run([listing], input=run.record, stdout=subprocess.PIPE, check=True).stdout.decode()
+    out = subprocess.run(shlex.split(listing), input=run.record, stdout=subprocess.PIPE, check=True).stdout.decode()
     places = sorted(int(line.split()[1]) for line in out.splitlines() if line.startswith("site"))
     return places.index(run.site)
 
@@ -139,7 +145,7 @@ use mathlib.Core.Path.{_≡_, refl}
 %s
 use Rattle.card.specs.Word.{signedOf, signExtend, leadingZeros}
 use Rattle.card.specs.Memory.{readLE, writeLE, load, direct, store}
-use Rattle.card.specs.Step.{opStep}
+use Rattle.card.specs.Step.{%s}
 use Rattle.card.specs.Run.{opsFrom, run}
 use Rattle.card_runs.specs.Case.{Case, runs, reached, expected, block, memory, op, hex, regs, card}
 use Rattle.card_runs.specs.Case.{%s}
@@ -150,11 +156,17 @@ cases =
     ∷ []
 
 pub all-reach : reached cases ≡ expected cases
-unfolding run opsFrom opStep load direct store readLE writeLE signedOf signExtend leadingZeros
+unfolding run opsFrom opStep load direct store readLE writeLE signedOf signExtend leadingZeros%s
 all-reach = refl
 """
 CELLS = "sp rets hold brk pc done".split()
 CASE = "outcome entry byReturn byTable byChain reg".split() + CELLS + ["ram", "map", "_&_"]
+
+
+def walks(text):
+    """What the groups in a file's text go through, of the card and of the block."""
+    found = [WALKS[n] for n in WALKS if re.search(rf"\b{n}\b", text)]
+    return [list(dict.fromkeys(" ".join(names).split())) for names in zip(*found)] or [[], []]
 
 
 def uses(text, names):
@@ -169,9 +181,11 @@ def uses(text, names):
         own = [variants.get(n, f"{n[len(prefix):]} as {n}" if prefix else n) for n in all_names if n in found]
         for k in range(0, len(own), 8):
             lines.append(f"use Rattle.block.specs.declared.{kind}.the-variants.{{{', '.join(own[k:k + 8])}}}")
+    steps, registers = walks(text)
+    lines += [f"use Rattle.block.specs.Block.{{{', '.join(registers)}}}"] if registers else []
     asked = [n for n in ("read", "write") if n in found]
     lines += [f"use Rattle.card.specs.Card.{{{', '.join(asked)}}}"] if asked else []
-    return "\n".join(lines), ", ".join(n for n in CASE if n.strip("_") in found)
+    return "\n".join(lines), ", ".join(["opStep"] + steps), ", ".join(n for n in CASE if n.strip("_") in found)
 
 
 def groups(path, runs):
@@ -195,10 +209,11 @@ def main():
     p.add_argument("--per", type=int, default=30)
     p.add_argument("--groups")
     a = p.parse_args()
-    sys.path.insert(0, os.path.dirname(os.path.abspath(a.runs)))
+    folder = a.runs if os.path.isdir(a.runs) else os.path.dirname(a.runs)
+    sys.path.insert(0, os.path.abspath(folder))
     sys.dont_write_bytecode = True
     import readruns
-    runs = list(readruns.read(a.runs))
+    runs = readruns.read_to(folder, "2026-14") if folder == a.runs else list(readruns.read(a.runs))
     if a.groups:
         parts = groups(a.groups, runs)
     else:
@@ -206,9 +221,11 @@ def main():
     os.makedirs(a.out, exist_ok=True)
     for name, text, part in parts:
         with open(os.path.join(a.out, name + ".antt"), "w") as f:
-            cases = [f"{'∷ ' if k else ''}{case(r, a.listing, readruns.NAMES)}" for k, r in enumerate(part)]
+            cases = [f"{'∷ ' if k else ''}{case(r, a.listing, readruns.ALL)}" for k, r in enumerate(part)]
             rows = "\n    ".join(f"-- {r.name}\n    {c}" for r, c in zip(part, cases))
-            f.write(HEAD % ((text, ", _++_" if "++" in rows else "") + uses(re.sub("--.*", "", rows), readruns.NAMES) + (rows,)))
+            bare = re.sub("--.*", "", rows)
+            unfolded = "".join(f" {n}" for names in walks(bare) for n in names)
+            f.write(HEAD % ((text, ", _++_" if "++" in rows else "") + uses(bare, readruns.ALL) + (rows, unfolded)))
     with open(os.path.join(a.out, "Lib.antt"), "w") as f:
         f.write("".join(f"pub mod {name}\n" for name, _, _ in parts))
     print(sum(len(part) for _, _, part in parts), "runs in", len(parts), "files")

@@ -12,7 +12,7 @@
 #include <stdlib.h>
 #include <string.h>
 
-enum { TABLE = 6152, BYTES = 1 << 13, WORDS = 1 << 14, BEYOND = 3, LINE = 1 << 19 };
+enum { TABLE = 6152, BYTES = 1 << 13, WORDS = 1 << 15, BEYOND = 3, LINE = 1 << 19 };
 
 uint32_t walk_stop(const uint8_t *record, size_t record_bytes, uint32_t *words, size_t words_lent, uint64_t *table, uint32_t upto);
 

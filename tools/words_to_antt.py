@@ -13,6 +13,7 @@ import argparse
 import os
 
 UNFOLDED = {
+    "block.specs.Block": "places upFrom",
     "record.specs.Record": "reading num16 num32 num64 fieldFault layoutFault regionFault memoryFault startFault contentsFault operationOf "
                            "operationFault operations header refusedOr layoutField memoryField addressesField startField",
     "lowering.specs.Compile": "blockWords blockLines blockCode sites starts",
@@ -20,7 +21,7 @@ UNFOLDED = {
                                 "fork limit load store stepCode stepCache stepsCode opening closing",
     "lowering.specs.Cache": "position latest oldest chosen spill slotFor seated ldReg stReg stored flushFrom flush reloadFrom reload",
     "lowering.specs.Instrs": "mov32",
-    "lowering.specs.Steps": "lowered opSteps opsSteps blockSteps",
+    "lowering.specs.Steps": "moveWords pushAll popAll lowered opSteps opsSteps blockSteps",
     "code.specs.Items": "index add halves padOf baseOf",
     "code.specs.Tree": "words lines instrs wholeLines poolIn findIn linesWords",
     "code.specs.Walk": "linesAt patchesOf unpatchedWords completedAt walkedWords",

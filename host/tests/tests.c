@@ -207,6 +207,33 @@ static void needs(void) {
     check(counts(NULL, 0, WERFUND_CUT, 0, 0), "an empty record at null is fault 1 at 0, counted");
 }
 
+/* Groups: 32 BlockMoves of 16 loads each, for which 16,384 words are too few; a pair, also where RAM is shorter than it; and a kind that there
+ * is not. */
+static void groups(void) {
+    static const uint8_t move[26] = {5, 23, 0, 40, 2, 0, 7, 0, 0, 0, 0xff, 0xff, 0, 0, 0, 0, 0, 0, 1, 0, 0, 0, 0, 0, 0, 0};
+    static const uint8_t pair[18] = {5, 15, 0, 43, 2, 0};
+    uint8_t record[77 + 32 * sizeof move];
+    uint32_t *words = lend(21064);
+    werfund_answer a;
+    memcpy(record, empty_block, 77);
+    for (size_t i = 0; i < 32; i++) {
+        memcpy(record + 77 + i * sizeof move, move, sizeof move);
+    }
+    check(counts(record, sizeof record, WERFUND_ACCEPTED, 0, 21064), "32 groups need 21,064 words");
+    check(werfund_translate_checked(record, sizeof record, words, 16384, table, &a) == WERFUND_ROOM && a.place == sizeof record,
+          "16,384 are fault 10 at the record's length");
+    check(all(words, 0, 16384, 0) && all(words, 16384, 21064, BEFORE), "and are 0, the words beyond untouched");
+    check(werfund_translate_checked(record, sizeof record, words, 21064, table, &a) == WERFUND_ACCEPTED && a.words == 21064, "21,064 are enough");
+    free(words);
+    memcpy(record + 77, pair, sizeof pair);
+    check(counts(record, 77 + sizeof pair, WERFUND_ACCEPTED, 0, 102), "a pair needs 102");
+    record[30] = 4;
+    record[32] = 0;
+    check(counts(record, 77 + sizeof pair, WERFUND_OPERAND, 77, 0), "with a RAM of 4 bytes it is fault 4 at 77");
+    record[80] = 45;
+    check(counts(record, 77 + sizeof pair, WERFUND_KIND, 77, 0), "and kind 45 is fault 3 at 77");
+}
+
 static void lengths(void) {
     for (size_t lent = 34; lent <= 36; lent++) {
         uint32_t words[40];
@@ -380,6 +407,7 @@ int main(int argc, char **argv) {
     cases(argv[1], argc < 3 ? (unsigned long)-1 : strtoul(argv[2], NULL, 10));
     empty();
     needs();
+    groups();
     lengths();
     misuse();
     need_misuse();

@@ -219,6 +219,56 @@ fn boundary(checks: &mut Checks) {
     );
 }
 
+/// Groups: 32 BlockMoves of 16 loads each, for which 16,384 words are too few; a pair, also where RAM is shorter than it; and a kind that there is
+/// not.
+fn groups(checks: &mut Checks) {
+    let mut translator = Translator::new();
+    let operation = |kind: u8, operands: &[u32]| {
+        let numbers = operands.iter().flat_map(|n| n.to_le_bytes());
+        let head = [5, 3 + 4 * operands.len() as u8, 0, kind, 2, 0];
+        head.into_iter().chain(numbers).collect::<Vec<u8>>()
+    };
+    let mut record = block(0x02000000, 0);
+    record.extend(operation(40, &[7, 0xffff, 0, 1, 0]).repeat(32));
+    checks.check(
+        translator.words_needed(&record) == Ok(21064),
+        "32 groups need 21,064 words",
+    );
+    let mut words = vec![BEFORE; 21064];
+    checks.check(
+        translator.translate(&record, &mut words[..16384]) == Err(fault(10, record.len())),
+        "16,384 are fault 10 at the record's length",
+    );
+    checks.check(
+        words[..16384].iter().all(|w| *w == 0) && words[16384..].iter().all(|w| *w == BEFORE),
+        "and are 0, the words beyond untouched",
+    );
+    checks.check(
+        translator
+            .translate(&record, &mut words)
+            .is_ok_and(|block| block.words == 21064),
+        "21,064 are enough",
+    );
+
+    let mut pair = block(0x02000000, 0);
+    pair.extend(operation(43, &[0, 0, 0]));
+    checks.check(
+        translator.words_needed(&pair) == Ok(102),
+        "a pair needs 102",
+    );
+    pair[30..34].copy_from_slice(&4u32.to_le_bytes());
+    checks.check(
+        translator.words_needed(&pair) == Err(fault(4, 77)),
+        "with a RAM of 4 bytes it is fault 4 at 77",
+    );
+    pair[80] = 45;
+    let said = translator.words_needed(&pair).unwrap_err().to_string();
+    checks.check(
+        said == "refused 3 77: a kind is above 44",
+        "and kind 45 is fault 3 at 77",
+    );
+}
+
 /// Two translators by turns, and one that serves two blocks: no call is disturbed by another.
 fn interleaved(checks: &mut Checks) {
     let records = [block(0x02000000, 0), block(0x02000800, 1)];
@@ -277,6 +327,7 @@ fn main() -> ExitCode {
         &mut checks,
     );
     boundary(&mut checks);
+    groups(&mut checks);
     interleaved(&mut checks);
     links(&mut checks);
     println!("checks {}\nfailed {}", checks.made, checks.failed);

@@ -1,9 +1,9 @@
 -- The checked block's types, by one name each, and what is read off them.
-use mathlib.Core.Bool.{Bool, _&&_}
+use mathlib.Core.Bool.{Bool, true, false, cond, not, _&&_, _||_}
 use mathlib.Core.List.{List, [], _∷_}
-use Prim.Native.Nat.{ℕ}
-use lib.Dec.{leb, ltb}
-use lib.ListN.{take}
+use Prim.Native.Nat.{ℕ, zero, suc, _+_, _-_, _*_, _/_, _%_}
+use lib.Dec.{leb, ltb, eqb}
+use lib.ListN.{length, take}
 pub use Rattle.block.specs.declared.Op.{Op}
 pub use Rattle.block.specs.declared.Op.the-variants.{Add, Sub, RSub, And, AndNot, Or, Xor, Mul, Shl, Shr, Sar}
 pub use Rattle.block.specs.declared.RmwOp.{RmwOp}
@@ -25,7 +25,7 @@ pub use Rattle.block.specs.declared.UnKind.the-variants.{Not, Neg, Abs, 
 pub use Rattle.block.specs.declared.DivKind.{DivKind}
 pub use Rattle.block.specs.declared.DivKind.the-variants.{QuoS, QuoU, RemS, RemU}
 pub use Rattle.block.specs.declared.Fast.{Fast}
-pub use Rattle.block.specs.declared.Fast.the-variants.{Nop, MovI, Mov, AddRI, ShlI, SarI, Alu3, Alu3I, Alu2, Alu2I, A4, Ext, MinMax, Un, Div, Mov2, Mov2I, BitExt, BitIns, SpAdd, RFromSp, Ld, St, LdIdx, StIdx, LdPost, StPost, Rmw, PushRet, PopRets, BrI, BrR, DecBr, BitBr, Goto, Call, Rts, GotoR, CallR, PopRet}
+pub use Rattle.block.specs.declared.Fast.the-variants.{Nop, MovI, Mov, AddRI, ShlI, SarI, Alu3, Alu3I, Alu2, Alu2I, A4, Ext, MinMax, Un, Div, Mov2, Mov2I, BitExt, BitIns, SpAdd, RFromSp, Ld, St, LdIdx, StIdx, LdPost, StPost, Rmw, PushRet, PopRets, BrI, BrR, DecBr, BitBr, Goto, Call, Rts, GotoR, CallR, PopRet, BlockMove, PushRets, PopPc, LdPair, StPair}
 pub use Rattle.block.specs.declared.BOp.{BOp}
 pub use Rattle.block.specs.declared.Layout.{Layout}
 pub use Rattle.block.specs.declared.Memory.{Memory}
@@ -84,11 +84,102 @@ kindOf Rts = 36
 kindOf (GotoR r) = 37
 kindOf (CallR r) = 38
 kindOf PopRet = 39
+kindOf (BlockMove base mask store post down) = 40
+kindOf (PushRets n) = 41
+kindOf (PopPc n) = 42
+kindOf (LdPair p b off) = 43
+kindOf (StPair p b off) = 44
 
--- kinds 30 to 39 jump
+-- kinds 30 to 39 jump, and 42
+abbrev pub jumping : ℕ → Bool
+jumping k = (leb 30 k && ltb k 40) || eqb k 42
+
+-- kinds 21 to 29, 40, 41, 43 and 44 use the bus, and each is followed by a break check
+abbrev pub onBus : ℕ → Bool
+onBus k = (leb 21 k && ltb k 30) || (leb 40 k && (ltb k 45 && not (eqb k 42)))
+
 abbrev pub mayJump : Fast → Bool
-mayJump f = leb 30 (kindOf f)
+mayJump f = jumping (kindOf f)
 
--- kinds 21 to 29 use the bus, and each is followed by a break check
 abbrev pub usesBus : Fast → Bool
-usesBus f = leb 21 (kindOf f) && ltb (kindOf f) 30
+usesBus f = onBus (kindOf f)
+
+-- ---- the registers of a group
+-- a register before others, if it is wanted
+abbrev pub leading : Bool → ℕ → List ℕ → List ℕ
+leading true r rs = r ∷ rs
+leading false r rs = rs
+
+-- of so many digits, the places of those that are set, from place r on
+unfoldable pub places : (digits r mask : ℕ) → List ℕ
+places zero r mask = []
+places (suc d) r mask = leading (eqb (mask % 2) 1) r (places d (suc r) (mask / 2))
+
+-- the registers of a mask of 16 bits, lowest first
+abbrev pub members : ℕ → List ℕ
+members mask = places 16 0 mask
+
+-- "its number of ones sets the span": four bytes for each
+abbrev pub span : ℕ → ℕ
+span mask = 4 * length (members mask)
+
+-- so many registers from r on
+unfoldable pub upFrom : (r count : ℕ) → List ℕ
+upFrom r zero = []
+upFrom r (suc k) = r ∷ upFrom (suc r) k
+
+-- the registers of PushRets and PopPc: from the lesser of n and 4 to the greater of n and 3
+abbrev pub saved : ℕ → List ℕ
+saved n = cond (ltb n 4) (upFrom n (4 - n)) (upFrom 4 (n - 3))
+
+-- the registers of a pair: p counts mod 8
+abbrev pub pairOf : ℕ → List ℕ
+pairOf p = (2 * (p % 8)) ∷ (2 * (p % 8) + 1) ∷ []
+
+-- the words that a group moves, rets and pc included; any other kind moves none
+abbrev pub moved : Fast → ℕ
+moved Nop = 0
+moved (MovI d v) = 0
+moved (Mov d s) = 0
+moved (AddRI d s v) = 0
+moved (ShlI d s n) = 0
+moved (SarI d s n) = 0
+moved (Alu3 d a b op) = 0
+moved (Alu3I d a v op) = 0
+moved (Alu2 d b op) = 0
+moved (Alu2I d v op) = 0
+moved (A4 d s op rk rv) = 0
+moved (Ext d s part signed) = 0
+moved (MinMax d a b kind) = 0
+moved (Un d s k) = 0
+moved (Div d a b k) = 0
+moved (Mov2 dh dl sh sl) = 0
+moved (Mov2I dh dl v) = 0
+moved (BitExt d s p l signed) = 0
+moved (BitIns d s p l) = 0
+moved (SpAdd v) = 0
+moved (RFromSp d v) = 0
+moved (Ld d b off w signed) = 0
+moved (St s b off w) = 0
+moved (LdIdx d b i sh w signed) = 0
+moved (StIdx s b i sh w) = 0
+moved (LdPost d b w signed inc) = 0
+moved (StPost s b w inc) = 0
+moved (Rmw b w op off v) = 0
+moved PushRet = 0
+moved PopRets = 0
+moved (BrI a v cond target) = 0
+moved (BrR a b cond target) = 0
+moved (DecBr r cond v target) = 0
+moved (BitBr r mk ne mv target) = 0
+moved (Goto target) = 0
+moved (Call target) = 0
+moved Rts = 0
+moved (GotoR r) = 0
+moved (CallR r) = 0
+moved PopRet = 0
+moved (BlockMove base mask store post down) = length (members mask)
+moved (PushRets n) = suc (length (saved n))
+moved (PopPc n) = suc (length (saved n))
+moved (LdPair p b off) = length (pairOf p)
+moved (StPair p b off) = length (pairOf p)

@@ -3,11 +3,11 @@ use mathlib.Core.Path.{_≡_}
 use mathlib.Core.Bool.{false}
 use mathlib.Core.List.{List, [], _∷_}
 use mathlib.Core.Logic.{_⊎_}
-use Prim.Native.Nat.{ℕ, _+_, _%_, _<_, _≤_}
+use Prim.Native.Nat.{ℕ, _+_, _*_, _%_, _<_, _≤_}
 use lib.ListN.{length}
-use Rattle.block.specs.Block.{Base, Reg, Sp, Fast, BOp, Layout, Memory, Addresses, Block, opsOf, mayJump}
+use Rattle.block.specs.Block.{Base, Reg, Sp, Fast, BOp, Layout, Memory, Addresses, Block, opsOf, mayJump, moved}
 use Rattle.block.specs.Block.{Nop, MovI, Mov, AddRI, ShlI, SarI, Alu3, Alu3I, Alu2, Alu2I, A4, Ext, MinMax, Un, Div, Mov2, Mov2I, BitExt, BitIns, SpAdd, RFromSp}
-use Rattle.block.specs.Block.{Ld, St, LdIdx, StIdx, LdPost, StPost, Rmw, PushRet, PopRets, BrI, BrR, DecBr, BitBr, Goto, Call, Rts, GotoR, CallR, PopRet}
+use Rattle.block.specs.Block.{Ld, St, LdIdx, StIdx, LdPost, StPost, Rmw, PushRet, PopRets, BrI, BrR, DecBr, BitBr, Goto, Call, Rts, GotoR, CallR, PopRet, BlockMove, PushRets, PopPc, LdPair, StPair}
 
 -- ---- operands
 
@@ -18,6 +18,10 @@ Register r = r < 16
 -- n, p, l, sh: 0 to 255
 abbrev pub Byte : ℕ → Type 0
 Byte n = n < 256
+
+-- a mask of registers: 16 bits
+abbrev pub Mask : ℕ → Type 0
+Mask m = m < 65536
 
 -- v, off, inc, rv, mv, target: any 32 bits
 abbrev pub Bits32 : ℕ → Type 0
@@ -70,6 +74,11 @@ FastFits Rts = Unit {0}
 FastFits (GotoR r) = Register r
 FastFits (CallR r) = Register r
 FastFits PopRet = Unit {0}
+FastFits (BlockMove base mask store post down) = Register base × Mask mask
+FastFits (PushRets n) = n < 16
+FastFits (PopPc n) = n < 16
+FastFits (LdPair p b off) = Byte p × BaseFits b × Bits32 off
+FastFits (StPair p b off) = Byte p × BaseFits b × Bits32 off
 
 -- an operation: its operands, and a guest length of 0 to 255 bytes
 pub record BOpFits (o : BOp) : Type 0 where
@@ -131,6 +140,16 @@ pub record AddressesFit (a : Addresses) : Type 0 where
   pub h-write : a .«h_write» < 18446744073709551616
   pub table : a .table < 18446744073709551616
 
+-- ---- groups
+
+-- a group's bytes are at most those of RAM, and at most those of XIP
+abbrev pub GroupFits : Memory → Fast → Type 0
+GroupFits m f = (4 * moved f ≤ m .«ram_len») × (4 * moved f ≤ m .«xip_len»)
+
+abbrev pub GroupsFit : Memory → List BOp → Type 0
+GroupsFit m [] = Unit {0}
+GroupsFit m (o ∷ os) = GroupFits m (o .fast) × GroupsFit m os
+
 -- ---- the block
 
 pub record Checked (b : Block) : Type 0 where
@@ -143,3 +162,4 @@ pub record Checked (b : Block) : Type 0 where
   pub size : length (b .ops) ≡ 32
   pub ops : OpsFit (opsOf b)
   pub last-jumps : NoneAfterJump (opsOf b)
+  pub groups : GroupsFit (b .memory) (opsOf b)

@@ -1,6 +1,8 @@
 // A checked block: what a block record holds once it is read. The names are those of the Rust: `Fast` is an operation, `Op` its
 // arithmetic, `BOp` an operation of a block. A selector that document 01 counts in numbers is an enum here, a number above its
 // cases being its last case (docs/DECISIONS.md).
+ghost use mathlib.Core.Path.{_≡_};
+ghost use Rattle.block.specs.Block.{jumping, onBus};
 
 // op 0 to 10
 pub enum Op {
@@ -95,7 +97,7 @@ pub enum DivKind {
     RemU,
 }
 
-// The forty kinds, in document 01's order, with its operands in order.
+// The kinds, in document 01's order, then document 02's, with their operands in order.
 pub enum Fast {
     Nop,
     MovI {
@@ -293,6 +295,29 @@ pub enum Fast {
         r: u8,
     },
     PopRet,
+    BlockMove {
+        base: u8,
+        mask: u16,
+        store: bool,
+        post: bool,
+        down: bool,
+    },
+    PushRets {
+        n: u8,
+    },
+    PopPc {
+        n: u8,
+    },
+    LdPair {
+        p: u8,
+        b: Base,
+        off: u32,
+    },
+    StPair {
+        p: u8,
+        b: Base,
+        off: u32,
+    },
 }
 
 // An operation of a block: its guest length in bytes, and whether it is glued to the next one.
@@ -335,4 +360,18 @@ pub struct Block {
     pub pc0: u32,
     pub ops: [BOp; 32],
     pub n: u32,
+}
+
+// The kinds that jump, by number: 30 to 39, and PopPc.
+pub fn jumps(kind: u8) -> bool
+    ensures { λ r. ⌜ r ≡ jumping kind ⌝ }
+{
+    ((30 <= kind) & (kind < 40)) | (kind == 42)
+}
+
+// The kinds that use the bus: 21 to 29, and the groups but PopPc.
+pub fn on_bus(kind: u8) -> bool
+    ensures { λ r. ⌜ r ≡ onBus kind ⌝ }
+{
+    ((21 <= kind) & (kind < 30)) | ((40 <= kind) & ((kind < 45) & (kind != 42)))
 }

@@ -1,12 +1,12 @@
 -- The steps of a checked operation have numbers that their instructions carry.
 use mathlib.Core.Path.{_≡_, refl}
 use mathlib.Core.Bool.{Bool, true, false}
-use mathlib.Core.List.{List, [], _∷_, _++_}
-use Prim.Native.Nat.{ℕ, suc, _+_, _-_, _*_, _%_, _^_, _<_, _≤_}
+use mathlib.Core.List.{List, [], _∷_, _++_, reverse}
+use Prim.Native.Nat.{ℕ, suc, _+_, _-_, _%_, _^_, _<_, _≤_}
 use native.Mathlib.Nat.{mod-lt, pow-le-pow-right}
 use native.Mathlib.Omega.{arith}
 use lib.Dec.{T, eqb, ltb}
-use borrow.Author.Tests.{eqb-false}
+use lib.ListN.{length}
 use Rattle.block.specs.declared.Op.{Op}
 use Rattle.block.specs.declared.Op.the-variants.{Add, Sub, RSub, And, AndNot, Or, Xor, Mul, Shl, Shr, Sar}
 use Rattle.block.specs.declared.RmwOp.{RmwOp}
@@ -27,15 +27,16 @@ use Rattle.block.specs.declared.UnKind.the-variants.{Not, Neg, Abs, Rev, Clz, S
 use Rattle.block.specs.declared.DivKind.{DivKind}
 use Rattle.block.specs.declared.DivKind.the-variants.{QuoS, QuoU, RemS, RemU}
 use Rattle.block.specs.declared.Fast.{Fast}
-use Rattle.block.specs.declared.Fast.the-variants.{Nop, MovI, Mov, AddRI, ShlI, SarI, Alu3, Alu3I, Alu2, Alu2I, A4, Ext, MinMax, Un, Div, Mov2, Mov2I, BitExt, BitIns, SpAdd, RFromSp, Ld, St, LdIdx, StIdx, LdPost, StPost, Rmw, PushRet, PopRets, BrI, BrR, DecBr, BitBr, Goto, Call, Rts, GotoR, CallR, PopRet}
+use Rattle.block.specs.declared.Fast.the-variants.{Nop, MovI, Mov, AddRI, ShlI, SarI, Alu3, Alu3I, Alu2, Alu2I, A4, Ext, MinMax, Un, Div, Mov2, Mov2I, BitExt, BitIns, SpAdd, RFromSp, Ld, St, LdIdx, StIdx, LdPost, StPost, Rmw, PushRet, PopRets, BrI, BrR, DecBr, BitBr, Goto, Call, Rts, GotoR, CallR, PopRet, BlockMove, PushRets, PopPc, LdPair, StPair}
 use Rattle.block.specs.declared.BOp.{BOp}
-use Rattle.block.specs.declared.Block.{Block}
-use Rattle.block.specs.Block.{usesBus}
+use Rattle.block.specs.Block.{usesBus, members, span, saved, pairOf}
+use Rattle.block.proofs.Groups.{Registers, members-in, members-few, saved-in, pair-in, reverse-in}
 use Rattle.block.specs.Checked.{FastFits, BOpFits, BaseFits}
 use Rattle.code.specs.Items.{pick}
 use Rattle.lowering.specs.Instrs.{NE, EQ, sbfx, ubfx, lslI, lsrI, asrI, addLsl, csel}
 use Rattle.lowering.specs.Steps.{Step, lowered, opSteps, alu, acond, choice, ext, rhs, base, un, div, low, ones, hole, sign, rmwValue}
-use Rattle.arm.specs.Instr.{Carried}
+use Rattle.lowering.specs.Steps.{moveWord, moveWords, moveBase, pushAll, popAll}
+use Rattle.lowering.proofs.Groups.{offset-lt}
 use Rattle.arm.specs.Decode.{carried}
 use Rattle.arm.proofs.RoundTrip.{carried-true}
 use Rattle.bounds.specs.Sound.{StepFits, AllFit}
@@ -161,6 +162,33 @@ ones-lt l = by (eqb (l % 32) 0)
 hole-lt : (p l : ℕ) → hole (p % 32) (l % 32) < 4294967296
 hole-lt p l = omega arith
 
+-- ---- groups
+base-behind : (post down : Bool) (n r : ℕ) → n ≤ 64 → r < 16 → AllFit (moveBase post down n r)
+base-behind false down n r h l = tt
+base-behind true true n r h l = ((tt, tt, omega arith), ((tt, l), tt))
+base-behind true false n r h l = ((tt, tt, omega arith), ((tt, l), tt))
+
+module _ (i : ℕ) (hi : i < 4096) where
+  word-fits : (u : Bool) (k r : ℕ) → k ≤ 16 → r < 16 → AllFit (moveWord u i k r)
+  word-fits true k r h l = ((tt, tt, omega arith), ((tt, l), (hi, tt)))
+  word-fits false k r h l = ((tt, tt, omega arith), (hi, ((tt, l), tt)))
+
+  moves-fit : (u : Bool) (k : ℕ) (rs : List ℕ) → k + length rs ≤ 16 → Registers rs → AllFit (moveWords u i k rs)
+  unfolding moveWords
+  moves-fit u k [] h l = tt
+  moves-fit u k (r ∷ rs) h l =
+      fit-append (moveWord u i k r) _ (word-fits u k r (omega arith) (l .0)) (moves-fit u (suc k) rs (omega arith) (l .1))
+
+  pushes-fit : (rs : List ℕ) → Registers rs → AllFit (pushAll i rs)
+  unfolding pushAll
+  pushes-fit [] h = tt
+  pushes-fit (r ∷ rs) h = (tt, (tt, (tt, ((tt, h .0), (hi, pushes-fit rs (h .1))))))
+
+  pops-fit : (rs : List ℕ) → Registers rs → AllFit (popAll i rs)
+  unfolding popAll
+  pops-fit [] h = tt
+  pops-fit (r ∷ rs) h = (tt, (hi, ((tt, h .0), (tt, (tt, (tt, pops-fit rs (h .1)))))))
+
 -- ---- the kinds
 module _ (i next : ℕ) (hi : i < 32) (hn : next < 4294967296) where
   pos-lt : i < 4096
@@ -188,8 +216,11 @@ module _ (i next : ℕ) (hi : i < 32) (hn : next < 4294967296) where
   kind-fits (Div d x y k) h = ((tt, h .1), ((tt, h .2), fit-append (div k) _ (div-fits k) ((tt, h .0), tt)))
   kind-fits (Mov2 dh dl sh sl) h = ((tt, h .2), ((tt, h .3), ((tt, h .0), ((tt, h .1), tt))))
   kind-fits (Mov2I dh dl v) h = ((tt, h .2), ((tt, h .1), ((tt, sign-lt v), ((tt, h .0), tt))))
-  kind-fits (BitExt d s p l signed) h = ((tt, h .1), (lsr-fits p, fit-append (low (l % 32) signed) _ (low-fits (l % 32) signed (mod-lt l (omega arith))) ((tt, h .0), tt)))
-  kind-fits (BitIns d s p l) h = ((tt, h .1), ((tt, h .0), ((tt, ones-lt l), (tt, (lsl-fits p, ((tt, hole-lt p l), (tt, (tt, ((tt, h .0), tt)))))))))
+  kind-fits (BitExt d s p l signed) h =
+      let bits = low-fits (l % 32) signed (mod-lt l (omega arith)) in
+      ((tt, h .1), (lsr-fits p, fit-append (low (l % 32) signed) _ bits ((tt, h .0), tt)))
+  kind-fits (BitIns d s p l) h =
+      ((tt, h .1), ((tt, h .0), ((tt, ones-lt l), (tt, (lsl-fits p, ((tt, hole-lt p l), (tt, (tt, ((tt, h .0), tt)))))))))
   kind-fits (SpAdd v) h = (tt, ((tt, tt, h), (tt, tt)))
   kind-fits (RFromSp d v) h = (tt, ((tt, tt, h .1), ((tt, h .0), tt)))
   kind-fits (Ld d r o w signed) h = (base-fits r (h .1), ((tt, tt, h .2), (pos-lt, ((tt, h .0), tt))))
@@ -198,19 +229,33 @@ module _ (i next : ℕ) (hi : i < 32) (hn : next < 4294967296) where
   kind-fits (StIdx s r x sh w) h = ((tt, h .1), ((tt, h .2), (addLsl-fits sh, ((tt, h .0), (pos-lt, tt)))))
   kind-fits (LdPost d r w signed inc) h = ((tt, h .1), (pos-lt, ((tt, h .0), ((tt, h .1), ((tt, tt, h .2), ((tt, h .1), tt))))))
   kind-fits (StPost s r w inc) h = ((tt, h .1), ((tt, h .0), (pos-lt, ((tt, h .1), ((tt, tt, h .2), ((tt, h .1), tt))))))
-  kind-fits (Rmw r w op o v) h = ((tt, h .0), ((tt, tt, h .1), fit-append (rmwValue op w v i) _ (rmw-fits op w v i (h .2) pos-lt) (tt, (pos-lt, tt))))
+  kind-fits (Rmw r w op o v) h =
+      ((tt, h .0), ((tt, tt, h .1), fit-append (rmwValue op w v i) _ (rmw-fits op w v i (h .2) pos-lt) (tt, (pos-lt, tt))))
   kind-fits PushRet h = (tt, (tt, (tt, (tt, (pos-lt, tt)))))
   kind-fits PopRets h = (tt, (pos-lt, (tt, (tt, (tt, (tt, tt))))))
   kind-fits (BrI r v q target) h = ((tt, h .0), ((tt, h .1), (tt, ((acond-lt q, hn, h .2, count-lt), tt))))
   kind-fits (BrR r s q target) h = ((tt, h .0), ((tt, h .1), (tt, ((acond-lt q, hn, h .2, count-lt), tt))))
   kind-fits (DecBr r q v target) h = ((tt, h .0), (tt, ((tt, h .0), ((tt, h .1), (tt, ((acond-lt q, hn, h .2, count-lt), tt))))))
-  kind-fits (BitBr r mk ne mv target) h = fit-append (rhs mk mv) _ (rhs-fits mk mv (h .1)) ((tt, h .0), (tt, ((test-lt ne, hn, h .2, count-lt), tt)))
+  kind-fits (BitBr r mk ne mv target) h =
+      fit-append (rhs mk mv) _ (rhs-fits mk mv (h .1)) ((tt, h .0), (tt, ((test-lt ne, hn, h .2, count-lt), tt)))
   kind-fits (Goto target) h = ((h, count-lt), tt)
   kind-fits (Call target) h = ((tt, hn), (tt, ((h, count-lt), tt)))
   kind-fits Rts h = (tt, ((tt, count-lt), tt))
   kind-fits (GotoR r) h = ((tt, h), ((tt, count-lt), tt))
   kind-fits (CallR r) h = ((tt, hn), (tt, ((tt, h), ((tt, count-lt), tt))))
   kind-fits PopRet h = (tt, (pos-lt, (tt, (tt, (tt, (tt, ((tt, count-lt), tt)))))))
+  kind-fits (BlockMove r mask u post down) h =
+      let n : length (members mask) ≤ 16 = members-few mask in
+      let moves = moves-fit i pos-lt u 0 (members mask) (omega arith) (members-in mask) in
+      let behind = base-behind post down (span mask) r (omega arith) (h .0) in
+      ((tt, h .0), ((tt, tt, offset-lt down (span mask)), fit-append (moveWords u i 0 (members mask)) _ moves behind))
+  kind-fits (PushRets n) h =
+      (tt, (tt, (tt, (tt, (pos-lt, pushes-fit i pos-lt (reverse (saved n)) (reverse-in (saved n) (saved-in n h)))))))
+  kind-fits (PopPc n) h =
+      fit-append (popAll i (saved n)) _ (pops-fit i pos-lt (saved n) (saved-in n h))
+      (tt, (pos-lt, (tt, (tt, (tt, (tt, ((tt, count-lt), tt)))))))
+  kind-fits (LdPair p r o) h = (base-fits r (h .1), ((tt, tt, h .2), moves-fit i pos-lt false 0 (pairOf p) (omega arith) (pair-in p)))
+  kind-fits (StPair p r o) h = (base-fits r (h .1), ((tt, tt, h .2), moves-fit i pos-lt true 0 (pairOf p) (omega arith) (pair-in p)))
 
   check-fits : (glue : Bool) → StepFits (Step.checkBrk glue next (i + 1))
   check-fits glue = (hn, count-lt)

@@ -1,3 +1,4 @@
+pub mod Cost
 pub mod Fit
 pub mod Fine
 pub mod Fragments

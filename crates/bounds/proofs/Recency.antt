@@ -7,7 +7,10 @@ use Rattle.block.specs.Checked.{Checked}
 use Rattle.lowering.specs.Steps.{blockSteps}
 use Rattle.lowering.specs.Recency.{SameWords}
 use Rattle.lowering.proofs.SameWords.{same-words as same-words-of}
+use Rattle.bounds.proofs.Cost.{Measure, length-le}
 use Rattle.bounds.proofs.Count.{block-few}
 
 pub same-words : (blk : Block) → Checked blk → SameWords blk
-same-words blk ck = let few : length (blockSteps blk) < 2 ^ 32 = omega (arith, block-few blk ck) in same-words-of blk few
+same-words blk ck =
+    let few : length (blockSteps blk) < 2 ^ 32 = omega (arith, length-le (blockSteps blk), block-few blk ck .le Measure.words) in
+    same-words-of blk few

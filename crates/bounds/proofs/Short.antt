@@ -1,8 +1,8 @@
--- A step's code is short: at most 64 words, 5 labels and 7 fix-ups; and a test of a bit is near the label that it goes to.
-use mathlib.Core.Path.{_≡_, refl}
+-- A step's code is short: its words, labels and fix-ups are at most what the step costs; and a test of a bit is near the label that
+-- it goes to.
 use mathlib.Core.Bool.{Bool, true, false, not, _&&_}
 use mathlib.Core.List.{List, [], _∷_, _++_}
-use Prim.Native.Nat.{ℕ, zero, suc, _+_, _-_, _*_, _/_, _%_, _<_, _≤_}
+use Prim.Native.Nat.{ℕ, suc, _-_, _/_, _%_, _<_, _≤_}
 use native.Mathlib.Omega.{arith}
 use lib.Dec.{eqb, ltb}
 use lib.ListN.{length, getD, length-append}
@@ -13,12 +13,13 @@ use Rattle.block.specs.declared.Layout.{Layout}
 use Rattle.block.specs.declared.Block.{Block}
 use Rattle.block.specs.Block.{bytes}
 use Rattle.code.specs.Items.{pick}
-use Rattle.code.specs.Tree.{Depth, top, under, Var, inner, outer, Code, words, labels, jumps, Tests, TestNear}
+use Rattle.code.specs.Tree.{Depth, top, under, Var, inner, outer, Code, words, labels, jumps, Tests}
 use Rattle.lowering.specs.declared.RegCache.{RegCache}
-use Rattle.lowering.specs.Instrs.{CPU, mov32, ldr, str}
+use Rattle.lowering.specs.Instrs.{CPU, RAM, XIP, mov32, ldr}
 use Rattle.lowering.specs.Cache.{POOL, host, FREE, offReg, oldest, isHeld, chosen, spill, ldReg, stReg, flushFrom, flush, reloadFrom, reload}
 use Rattle.lowering.specs.Steps.{Step}
 use Rattle.lowering.specs.Fragments.{minus, addImm, brkFirst, even, tryRegion, extended, oddTest, mapTest, call, exitImm, chain, ind, hold, checkBrk, fork, limit, load, store, stepCode, stepCache, stepsCode}
+use Rattle.bounds.proofs.Cost.{Measure, Cost, cost, costOf, total}
 
 -- ---- the lists of instructions
 pick-short : (x : Bool) (is js : List Instr) (k : ℕ) → length is ≤ k → length js ≤ k → length (pick x is js) ≤ k
@@ -35,11 +36,13 @@ addImm-short : (d s v : ℕ) → length (addImm d s v) ≤ 3
 unfolding addImm
 addImm-short d s v =
     pick-short (eqb v 0) _ _ 3 (pick-short (eqb d s) _ _ 3 (omega arith) (omega arith))
-    (pick-short (ltb v 4096) _ _ 3 (omega arith) (pick-short (ltb (minus v) 4096) _ _ 3 (omega arith) (simp length-append (omega (arith, mov32-short 9 v)))))
+    (pick-short (ltb v 4096) _ _ 3 (omega arith)
+    (pick-short (ltb (minus v) 4096) _ _ 3 (omega arith) (simp length-append (omega (arith, mov32-short 9 v)))))
 
 spill-short : (lay : Layout) (rc : RegCache) → length (spill lay rc) ≤ 1
 unfolding spill
-spill-short lay rc = pick-short (isHeld rc FREE) _ _ 1 (omega arith) (pick-short (getD (rc .dirty) (oldest rc) false) _ _ 1 (omega arith) (omega arith))
+spill-short lay rc =
+    pick-short (isHeld rc FREE) _ _ 1 (omega arith) (pick-short (getD (rc .dirty) (oldest rc) false) _ _ 1 (omega arith) (omega arith))
 
 ldReg-short : (lay : Layout) (rc : RegCache) (t r : ℕ) → length (ldReg lay rc t r) ≤ 3
 unfolding ldReg
@@ -60,13 +63,16 @@ flush-from lay [] gs ds = omega arith
 flush-from lay (h ∷ hs) [] ds = omega arith
 flush-from lay (h ∷ hs) (g ∷ gs) [] = omega arith
 flush-from lay (h ∷ hs) (g ∷ gs) (d ∷ ds) =
-    pick-short (d && not (eqb g FREE)) _ _ (suc (length hs)) (omega (arith, flush-from lay hs gs ds)) (omega (arith, flush-from lay hs gs ds))
+    let h : length (flushFrom lay hs gs ds) ≤ length hs = flush-from lay hs gs ds in
+    pick-short (d && not (eqb g FREE)) _ _ (suc (length hs)) (omega arith) (omega arith)
 
 reload-from : (lay : Layout) (hs gs : List ℕ) → length (reloadFrom lay hs gs) ≤ length hs
 unfolding reloadFrom
 reload-from lay [] gs = omega arith
 reload-from lay (h ∷ hs) [] = omega arith
-reload-from lay (h ∷ hs) (g ∷ gs) = pick-short (eqb g FREE) _ _ (suc (length hs)) (omega (arith, reload-from lay hs gs)) (omega (arith, reload-from lay hs gs))
+reload-from lay (h ∷ hs) (g ∷ gs) =
+    let h : length (reloadFrom lay hs gs) ≤ length hs = reload-from lay hs gs in
+    pick-short (eqb g FREE) _ _ (suc (length hs)) (omega arith) (omega arith)
 
 flush-short : (lay : Layout) (rc : RegCache) → length (flush lay rc) ≤ 8
 unfolding flush
@@ -98,6 +104,9 @@ pub record Short (w l j : ℕ) {n : Depth} (c : Code n) : Type 0 where
   pub jumps-le : jumps c ≤ j
   pub tests : (d : Var n → ℕ) (x : ℕ) → Tests c d x
 
+abbrev pub CostsAtMost : Cost → {n : Depth} → Code n → Type 0
+CostsAtMost k c = Short (k Measure.words) (k Measure.labels) (k Measure.jumps) c
+
 brk-short : (n : Depth) (u : Bool) → Short 2 0 1 (brkFirst {n = n} u)
 unfolding brkFirst words labels jumps Tests
 brk-short n false = record { words-le = omega arith; labels-le = omega arith; jumps-le = omega arith; tests = λ d x. tt }
@@ -121,7 +130,8 @@ odd-short n B8 = record { words-le = omega arith; labels-le = omega arith; jumps
 odd-short n B16 = record { words-le = omega arith; labels-le = omega arith; jumps-le = omega arith; tests = λ d x h. h }
 odd-short n B32 = record { words-le = omega arith; labels-le = omega arith; jumps-le = omega arith; tests = λ d x h. tt }
 
-region-short : (n : Depth) (reg gbase len : ℕ) (w : Width) (signed : Bool) (miss done : Var n) → Short 12 0 2 (tryRegion reg gbase len w signed miss done)
+region-short : (n : Depth) (reg gbase len : ℕ) (w : Width) (signed : Bool) (miss done : Var n)
+    → Short 12 0 2 (tryRegion reg gbase len w signed miss done)
 unfolding tryRegion words labels jumps Tests
 region-short n reg gbase len w signed miss done =
     record {
@@ -152,7 +162,7 @@ module _ (blk : Block) (rc : RegCache) (n : Depth) where
         tests = λ d x. (tt, tt);
       }
 
-  chain-short : (pc count : ℕ) → Short 17 2 3 (chain blk rc {n = n} pc count)
+  chain-short : (pc count : ℕ) → CostsAtMost (costOf (Step.chain pc count)) (chain blk rc {n = n} pc count)
   unfolding chain words labels jumps Tests
   chain-short pc count =
       record {
@@ -163,7 +173,7 @@ module _ (blk : Block) (rc : RegCache) (n : Depth) where
       }
 
 module _ (blk : Block) (rc : RegCache) (n : Depth) where
-  ind-short : (t count : ℕ) (brk : Bool) → Short 23 1 4 (ind blk rc {n = n} t count brk)
+  ind-short : (t count : ℕ) (brk : Bool) → CostsAtMost (costOf (Step.ind t count brk)) (ind blk rc {n = n} t count brk)
   unfolding ind words labels jumps Tests
   ind-short t count brk =
       let q = brk-short n brk in
@@ -179,7 +189,8 @@ module _ (blk : Block) (rc : RegCache) (n : Depth) where
   hold-short false = omega arith
   hold-short true = simp length-append (omega (arith, mov32-short 9 1))
 
-  check-short : (glue : Bool) (pc count : ℕ) → Short 18 1 2 (checkBrk blk rc {n = n} glue pc count)
+  check-short : (glue : Bool) (pc count : ℕ)
+      → CostsAtMost (costOf (Step.checkBrk glue pc count)) (checkBrk blk rc {n = n} glue pc count)
   unfolding checkBrk words labels jumps Tests
   check-short glue pc count =
       let q = exit-short blk rc (under n) pc count in
@@ -190,7 +201,8 @@ module _ (blk : Block) (rc : RegCache) (n : Depth) where
         tests = λ d x. (tt, (tt, (tt, q .tests _ _)));
       }
 
-  fork-short : (cond pc target count : ℕ) → Short 35 5 7 (fork blk rc {n = n} cond pc target count)
+  fork-short : (cond pc target count : ℕ)
+      → CostsAtMost (costOf (Step.fork cond pc target count)) (fork blk rc {n = n} cond pc target count)
   unfolding fork words labels jumps Tests
   fork-short cond pc target count =
       let p = chain-short blk rc (under n) pc count in
@@ -202,17 +214,24 @@ module _ (blk : Block) (rc : RegCache) (n : Depth) where
         tests = λ d x. ((tt, p .tests _ _), q .tests _ _);
       }
 
-  limit-short : (pc count : ℕ) → Short 16 1 2 (limit blk rc {n = n} pc count)
+  limit-short : (pc count : ℕ) → CostsAtMost (costOf (Step.limit pc count)) (limit blk rc {n = n} pc count)
   unfolding limit words labels jumps Tests
   limit-short pc count =
       let q = exit-short blk rc (under n) pc 0 in
-      record { words-le = omega (arith, q .words-le); labels-le = omega (arith, q .labels-le); jumps-le = omega (arith, q .jumps-le); tests = λ d x. (tt, (tt, q .tests _ _)) }
+      record {
+        words-le = omega (arith, q .words-le);
+        labels-le = omega (arith, q .labels-le);
+        jumps-le = omega (arith, q .jumps-le);
+        tests = λ d x. (tt, (tt, q .tests _ _));
+      }
 
-  load-short : (w : Width) (signed : Bool) (i : ℕ) → Short 48 3 5 (load blk rc {n = n} w signed i)
+  load-short : (w : Width) (signed : Bool) (i : ℕ)
+      → CostsAtMost (costOf (Step.load w signed i)) (load blk rc {n = n} w signed i)
   unfolding load words labels jumps Tests
   load-short w signed i =
-      let p = region-short (under (under (under n))) 21 (blk .memory .«ram_base») (blk .memory .«ram_len») w signed inner (outer (outer inner)) in
-      let q = region-short (under (under n)) 22 (blk .memory .«xip_base») (blk .memory .«xip_len») w signed inner (outer inner) in
+      let m = blk .memory in
+      let p = region-short (under (under (under n))) RAM (m .«ram_base») (m .«ram_len») w signed inner (outer (outer inner)) in
+      let q = region-short (under (under n)) XIP (m .«xip_base») (m .«xip_len») w signed inner (outer inner) in
       let r = call-short blk rc (under n) (blk .addresses .«h_read») in
       record {
         words-le = omega (arith, p .words-le, q .words-le, r .words-le, mov32-short 3 (bytes w), extended-short w signed);
@@ -221,53 +240,50 @@ module _ (blk : Block) (rc : RegCache) (n : Depth) where
         tests = λ d x. ((p .tests _ _, q .tests _ _), (tt, (r .tests _ _, tt)));
       }
 
-  store-short : (w : Width) (i : ℕ) → Short 37 2 5 (store blk rc {n = n} w i)
+  store-short : (w : Width) (i : ℕ) → CostsAtMost (costOf (Step.store w i)) (store blk rc {n = n} w i)
   unfolding store words labels jumps Tests
   store-short w i =
       let o = odd-short (under n) w in
       let m = map-short (under n) (blk .memory .map) in
       let r = call-short blk rc (under n) (blk .addresses .«h_write») in
+      let start = mov32-short 2 (blk .memory .«ram_base») in
+      let last = mov32-short 2 (blk .memory .«ram_len» - bytes w) in
       record {
-        words-le =
-            simp length-append
-            (omega (arith, o .words-le, m .words-le, r .words-le, mov32-short 2 (blk .memory .«ram_base»), mov32-short 2 (blk .memory .«ram_len» - bytes w), mov32-short 4 (bytes w)));
+        words-le = simp length-append (omega (arith, o .words-le, m .words-le, r .words-le, start, last, mov32-short 4 (bytes w)));
         labels-le = omega (arith, o .labels-le, m .labels-le, r .labels-le);
         jumps-le = omega (arith, o .jumps-le, m .jumps-le, r .jumps-le);
         tests = λ d x. (
           (
-            o .tests _ _ (simp length-append (omega (arith, m .words-le, mov32-short 2 (blk .memory .«ram_base»), mov32-short 2 (blk .memory .«ram_len» - bytes w)))),
+            o .tests _ _ (simp length-append (omega (arith, m .words-le, start, last))),
             (tt, (tt, (m .tests _ _, (tt, tt)))),
           ),
           (tt, r .tests _ _),
         );
       }
 
-  wider : {w l j : ℕ} {c : Code n} → w ≤ 48 → l ≤ 5 → j ≤ 7 → Short w l j c → Short 48 5 7 c
-  wider u v k h = record { words-le = omega (arith, h .words-le); labels-le = omega (arith, h .labels-le); jumps-le = omega (arith, h .jumps-le); tests = h .tests }
-
-  plain-short : (is : List Instr) → length is ≤ 48 → Short 48 5 7 {n = n} (Code.code is)
+  plain-short : (w : ℕ) (is : List Instr) → length is ≤ w → CostsAtMost (cost w 0 0 0) {n = n} (Code.code is)
   unfolding words labels jumps Tests
-  plain-short is h = record { words-le = h; labels-le = omega arith; jumps-le = omega arith; tests = λ d x. tt }
+  plain-short w is h = record { words-le = h; labels-le = omega arith; jumps-le = omega arith; tests = λ d x. tt }
 
-  pub step-short : (s : Step) → Short 48 5 7 (stepCode blk rc {n = n} s)
+  pub step-short : (s : Step) → CostsAtMost (costOf s) (stepCode blk rc {n = n} s)
   unfolding stepCode
-  step-short (Step.ldReg t r) = plain-short _ (omega (arith, ldReg-short (blk .layout) rc t r))
-  step-short (Step.stReg t r) = plain-short _ (omega (arith, stReg-short (blk .layout) rc t r))
-  step-short (Step.ldField f t) = plain-short _ (omega arith)
-  step-short (Step.stField f t) = plain-short _ (omega arith)
-  step-short (Step.mov32 t v) = plain-short _ (omega (arith, mov32-short t v))
-  step-short (Step.addImm d s v) = plain-short _ (omega (arith, addImm-short d s v))
-  step-short (Step.ins i) = plain-short _ (omega arith)
-  step-short (Step.load w signed i) = wider (omega arith) (omega arith) (omega arith) (load-short w signed i)
-  step-short (Step.store w i) = wider (omega arith) (omega arith) (omega arith) (store-short w i)
-  step-short (Step.checkBrk glue pc count) = wider (omega arith) (omega arith) (omega arith) (check-short glue pc count)
-  step-short (Step.chain pc count) = wider (omega arith) (omega arith) (omega arith) (chain-short blk rc n pc count)
-  step-short (Step.fork cond pc target count) = wider (omega arith) (omega arith) (omega arith) (fork-short cond pc target count)
-  step-short (Step.ind t count brk) = wider (omega arith) (omega arith) (omega arith) (ind-short t count brk)
-  step-short (Step.limit pc count) = wider (omega arith) (omega arith) (omega arith) (limit-short pc count)
+  step-short (Step.ldReg t r) = plain-short _ _ (ldReg-short (blk .layout) rc t r)
+  step-short (Step.stReg t r) = plain-short _ _ (stReg-short (blk .layout) rc t r)
+  step-short (Step.ldField f t) = plain-short _ _ (omega arith)
+  step-short (Step.stField f t) = plain-short _ _ (omega arith)
+  step-short (Step.mov32 t v) = plain-short _ _ (mov32-short t v)
+  step-short (Step.addImm d s v) = plain-short _ _ (addImm-short d s v)
+  step-short (Step.ins i) = plain-short _ _ (omega arith)
+  step-short (Step.load w signed i) = load-short w signed i
+  step-short (Step.store w i) = store-short w i
+  step-short (Step.checkBrk glue pc count) = check-short glue pc count
+  step-short (Step.chain pc count) = chain-short blk rc n pc count
+  step-short (Step.fork cond pc target count) = fork-short cond pc target count
+  step-short (Step.ind t count brk) = ind-short t count brk
+  step-short (Step.limit pc count) = limit-short pc count
 
 -- ---- steps in order
-pub steps-short : (blk : Block) (rc : RegCache) (ss : List Step) → Short (48 * length ss) (5 * length ss) (7 * length ss) (stepsCode blk rc ss)
+pub steps-short : (blk : Block) (rc : RegCache) (ss : List Step) → CostsAtMost (total ss) (stepsCode blk rc ss)
 unfolding stepsCode words labels jumps Tests
 steps-short blk rc [] = record { words-le = omega arith; labels-le = omega arith; jumps-le = omega arith; tests = λ d x. tt }
 steps-short blk rc (s ∷ ss) =

@@ -12,7 +12,7 @@ use Rattle.arm.proofs.Claims.{instruction-set}
 use Rattle.block.specs.declared.Block.{Block}
 use Rattle.block.specs.Checked.{Checked}
 use Rattle.code.specs.Items.{Sound, listing, padOf, halves, size}
-use Rattle.code.specs.Tree.{top, Code, code, _then_, nowhere, words, labels, jumps, wholeItems, wholeLines, poolIn, Tests, Fine}
+use Rattle.code.specs.Tree.{top, Code, words, labels, jumps, poolIn, Tests, Fine}
 use Rattle.code.proofs.Tree.{whole-once, whole-met, whole-size, whole-pool, whole-length, listing-instrs, listing-lines}
 use Rattle.code.proofs.Reach.{whole-reach, whole-sound}
 use Rattle.lowering.specs.Cache.{emptyCache}
@@ -22,7 +22,8 @@ use Rattle.lowering.specs.Compile.{blockCode, blockLines, blockWords}
 use Rattle.bounds.specs.Whole.{Tables, Carries, itemsOf, meant, blockPool, Emitted}
 use Rattle.bounds.proofs.Fine.{empty-fits}
 use Rattle.bounds.proofs.Fragments.{steps-fine, opening-sound, closing-sound}
-use Rattle.bounds.proofs.Short.{Short, steps-short}
+use Rattle.bounds.proofs.Cost.{Measure, total}
+use Rattle.bounds.proofs.Short.{CostsAtMost, steps-short}
 use Rattle.bounds.proofs.Count.{block-few, block-fits}
 use Rattle.bounds.proofs.Pool.{three}
 
@@ -41,12 +42,12 @@ first-decoded is ws behind h e =
     ∙ all-decoded is h
 
 module _ (blk : Block) (ck : Checked blk) where
-  steps : Short (48 * length (blockSteps blk)) (5 * length (blockSteps blk)) (7 * length (blockSteps blk)) (stepsCode blk emptyCache (blockSteps blk))
+  steps : CostsAtMost (total (blockSteps blk)) (stepsCode blk emptyCache (blockSteps blk))
   steps = steps-short blk emptyCache (blockSteps blk)
 
-  code-words : words (blockCode blk) ≤ 15469
+  code-words : words (blockCode blk) ≤ 28110
   unfolding blockCode words opening
-  code-words = omega (arith, steps .words-le, block-few blk ck)
+  code-words = omega (arith, steps .words-le, block-few blk ck .le Measure.words)
 
   lines-are : length (blockLines blk) ≡ words (blockCode blk) + 7
   unfolding blockLines closing
@@ -65,8 +66,8 @@ module _ (blk : Block) (ck : Checked blk) where
   tables =
       record {
         words = omega (arith, code-words, lines-are);
-        labels = omega (arith, steps .labels-le, block-few blk ck);
-        jumps = omega (arith, steps .jumps-le, block-few blk ck);
+        labels = omega (arith, steps .labels-le, block-few blk ck .le Measure.labels);
+        jumps = omega (arith, steps .jumps-le, block-few blk ck .le Measure.jumps);
         literals = pool-le;
       }
 
@@ -89,10 +90,12 @@ module _ (blk : Block) (ck : Checked blk) where
       subst Sound (sym (listing-instrs c closing)) (whole-sound c closing (h .fine) (h .sound) (h .tests) (h .short)) in
       let behind : List ℕ = padOf (size (itemsOf blk)) (blockPool blk) ++ halves (blockPool blk) in
       let are : blockWords blk ≡ map encode (meant blk) ++ behind = sym (listing-lines c closing) in
+      let near : words c + length closing + 1 + 2 * length (blockPool blk) < 262144 =
+      rw (whole-pool c closing) (omega (arith, code-words, closing-words, pool-le)) in
       record {
         bound-once = whole-once c closing;
         bound = whole-met c closing;
-        reach = whole-reach c closing (h .tests) (subst (λ ps. words c + length closing + 1 + 2 * length ps < 262144) (sym (whole-pool c closing)) (omega (arith, code-words, closing-words, pool-le)));
+        reach = whole-reach c closing (h .tests) near;
         carried = sound;
         words = are;
         decoded = first-decoded (meant blk) (blockWords blk) behind sound are;

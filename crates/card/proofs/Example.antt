@@ -1,15 +1,18 @@
--- The starred lines hold, and one block computed: a load at RAM's last offset, then a load from outside whose outcome sets the break word.
+-- The starred lines hold, and blocks computed: a load at RAM's last offset, then a load from outside whose outcome sets the break word; and
+-- one group each.
 use mathlib.Core.Bool.{true, false}
 use mathlib.Core.List.{List, [], _∷_}
 use mathlib.Core.Path.{_≡_, refl}
 use Prim.Native.Nat.{ℕ}
-use Rattle.card.specs.Kinds.{BOp, Ld, LdPost, Reg, B8, B32, Memory, Block}
+use lib.ListN.{length}
+use Rattle.block.specs.Block.{places, upFrom}
+use Rattle.card.specs.Kinds.{Fast, Ld, LdPost, BlockMove, PushRets, PopPc, LdPair, StPair, BOp, Reg, Sp, B8, B32, Memory, Block}
 use Rattle.card.specs.Word.{signedOf, signExtend}
-use Rattle.card.specs.Card.{Card, Outcome, Request, read}
-use Rattle.card.specs.Memory.{readLE, load}
-use Rattle.card.specs.Step.{exits, opStep}
+use Rattle.card.specs.Card.{Card, Outcome, Request, read, write}
+use Rattle.card.specs.Memory.{readLE, writeLE, load, direct, store}
+use Rattle.card.specs.Step.{exits, chains, loadAll, storeAll, pushAll, popAll, opStep}
 use Rattle.card.specs.Starred.{starred}
-use Rattle.card.specs.Run.{left, stopped, opsFrom, run}
+use Rattle.card.specs.Run.{End, left, stopped, opsFrom, run}
 
 abbrev computed : List (List ℕ × List ℕ) → List (List ℕ)
 computed [] = []
@@ -30,35 +33,113 @@ ops =
     ∷ record { fast = LdPost 3 4 B8 true 4; len = 2; glue = false }
     ∷ []
 
-abbrev block : Block
-block =
+abbrev block : List BOp → Block
+block os =
     record {
       layout = record { regs = 0; sp = 64; rets = 68; pc = 72; hold = 76 };
       memory = record { «ram_base» = 0x1000; «ram_len» = 8; «xip_base» = 0x2000; «xip_len» = 4; map = false };
       addresses = record { «h_read» = 0; «h_write» = 0; table = 0 };
       pc0 = 0x2000000;
-      ops = ops;
-      n = 2;
+      ops = os;
+      n = length os;
     }
 
 abbrev ram : List ℕ
 ram = 1 ∷ 2 ∷ 3 ∷ 4 ∷ 5 ∷ 6 ∷ 7 ∷ 8 ∷ []
 
-abbrev answered : Outcome
-answered = record { answer = 0x80; brk = 1; ram = ram; map = [] }
+abbrev answered : (answer brk : ℕ) → Outcome
+answered a b = record { answer = a; brk = b; ram = ram; map = [] }
+
+-- rets is 9
+abbrev cardOf : (r1 r2 r3 r4 sp hold : ℕ) → (ram : List ℕ) → (brk pc done : ℕ) → List Request → List Outcome → Card
+cardOf r1 r2 r3 r4 s h bytes brk pc done qs os =
+    record {
+      regs = 0 ∷ r1 ∷ r2 ∷ r3 ∷ r4 ∷ 0 ∷ 0 ∷ 0 ∷ 0 ∷ 0 ∷ 0 ∷ 0 ∷ 0 ∷ 0 ∷ 0 ∷ 0 ∷ [];
+      sp = s;
+      rets = 9;
+      hold = h;
+      ram = bytes;
+      map = [];
+      brk = brk;
+      pc = pc;
+      done = done;
+      requests = qs;
+      outcomes = os;
+    }
 
 abbrev card : (r2 r3 r4 brk pc done : ℕ) → List Request → List Outcome → Card
-card r2 r3 r4 brk pc done qs os =
-    record { regs = 0 ∷ 0x1004 ∷ r2 ∷ r3 ∷ r4 ∷ 0 ∷ 0 ∷ 0 ∷ 0 ∷ 0 ∷ 0 ∷ 0 ∷ 0 ∷ 0 ∷ 0 ∷ 0 ∷ []; sp = 0; rets = 0; hold = 7; ram = ram; map = []; brk = brk; pc = pc; done = done; requests = qs; outcomes = os }
+card r2 r3 r4 = cardOf 0x1004 r2 r3 r4 0 7 ram
 
 -- the limit is met exactly; the base is written though the break leaves; the request counts operation 1; hold is as before
 pub leaves-by-break
-    : run block [] 12 (card 0 0 0x9000 0 0 10 [] (answered ∷ []))
+    : run (block ops) [] 12 (card 0 0 0x9000 0 0 10 [] (answered 0x80 1 ∷ []))
     ≡ left exits (card 0x08070605 0xffffff80 0x9004 1 0x2000006 12 (read 0x9000 1 11 ∷ []) [])
 unfolding run opsFrom opStep load readLE signExtend
 leaves-by-break = refl
 
 -- without an outcome: the card before operation 1
-pub stops-before : run block [] 12 (card 0 0 0x9000 0 0 10 [] []) ≡ stopped (card 0x08070605 0 0x9000 0 0x2000004 11 [] [])
+pub stops-before : run (block ops) [] 12 (card 0 0 0x9000 0 0 10 [] []) ≡ stopped (card 0x08070605 0 0x9000 0 0x2000004 11 [] [])
 unfolding run opsFrom opStep load readLE
 stops-before = refl
+
+-- ---- groups: one of them alone, of length 4 and glued
+abbrev after : Fast → Card → End
+after f = run (block (record { fast = f; len = 4; glue = true } ∷ [])) [] 11
+
+-- A load of r1 and r3 from r1 on, the first word in RAM, the second outside: behind the words the base is 8 more than it was, whatever was
+-- loaded into it. The break leaves with hold set.
+pub base-last
+    : after (BlockMove 1 0x000a false true false) (cardOf 0x1004 0 0 0 0 7 ram 0 0 10 [] (answered 0x33 1 ∷ []))
+    ≡ left exits (cardOf 0x100c 0 0x33 0 0 1 ram 1 0x2000004 11 (read 0x1008 4 10 ∷ []) [])
+unfolding run opsFrom opStep loadAll load readLE places
+base-last = refl
+
+-- a store of r1 and r4 below r4: what is stored of the base is what it was
+pub base-stored
+    : after (BlockMove 4 0x0012 true true true) (cardOf 0x11223344 0 0 0x1008 0 7 ram 0 0 10 [] [])
+    ≡ left (chains 0)
+    (cardOf 0x11223344 0 0 0x1000 0 7 (0x44 ∷ 0x33 ∷ 0x22 ∷ 0x11 ∷ 8 ∷ 0x10 ∷ 0 ∷ 0 ∷ []) 0 0x2000004 11 [] [])
+unfolding run opsFrom opStep storeAll store direct writeLE places
+base-stored = refl
+
+-- the outcome of the first word sets the break word, that of the second clears it: both are moved, and nothing leaves
+pub set-cleared
+    : after (BlockMove 4 0x000c false false false) (cardOf 0 0 0 0x9000 0 7 ram 0 0 10 [] (answered 0x22 1 ∷ answered 0x33 0 ∷ []))
+    ≡ left (chains 0) (cardOf 0 0x22 0x33 0x9000 0 7 ram 0 0x2000004 11 (read 0x9000 4 10 ∷ read 0x9004 4 10 ∷ []) [])
+unfolding run opsFrom opStep loadAll load places
+set-cleared = refl
+
+-- an empty mask moves nothing and has its break check
+pub empty-mask
+    : after (BlockMove 4 0 true true true) (cardOf 0 0 0 0x9000 0 7 ram 1 0 10 [] [])
+    ≡ left exits (cardOf 0 0 0 0x9000 0 1 ram 1 0x2000004 11 [] [])
+unfolding run opsFrom opStep storeAll places
+empty-mask = refl
+
+-- rets first, then r3 and r2, downward, each a request of operation 0; the break word that the second outcome clears does not leave
+pub rets-first
+    : after (PushRets 2) (cardOf 0 0x22 0x33 0 0x900c 7 ram 0 0 10 [] (answered 0 1 ∷ answered 0 0 ∷ answered 0 0 ∷ []))
+    ≡ left (chains 0)
+    (cardOf 0 0x22 0x33 0 0x9000 7 ram 0 0x2000004 11 (write 0x9008 4 10 9 ∷ write 0x9004 4 10 0x33 ∷ write 0x9000 4 10 0x22 ∷ []) [])
+unfolding run opsFrom opStep pushAll store direct upFrom
+rets-first = refl
+
+-- r2, r3 and the target upward; the break word that the last outcome sets leaves for the target, with hold as it was
+pub target-last
+    : after (PopPc 2) (cardOf 0 0 0 0 0x1000 7 ram 0 0 10 [] (answered 0x2000100 1 ∷ []))
+    ≡ left exits (cardOf 0 0x04030201 0x08070605 0 0x100c 7 ram 1 0x2000100 11 (read 0x1008 4 10 ∷ []) [])
+unfolding run opsFrom opStep popAll load readLE upFrom
+target-last = refl
+
+-- pair 9 is r2 and r3; the address is that before the first load
+pub pair-loaded
+    : after (LdPair 9 (Reg 2) 4) (cardOf 0 0xffc 0 0 0 7 ram 0 0 10 [] [])
+    ≡ left (chains 0) (cardOf 0 0x04030201 0x08070605 0 0 7 ram 0 0x2000004 11 [] [])
+unfolding run opsFrom opStep loadAll load readLE
+pair-loaded = refl
+
+pub pair-stored
+    : after (StPair 9 Sp 0xfffffffc) (cardOf 0 0x22 0x33 0 0x1004 7 ram 0 0 10 [] [])
+    ≡ left (chains 0) (cardOf 0 0x22 0x33 0 0x1004 7 (0x22 ∷ 0 ∷ 0 ∷ 0 ∷ 0x33 ∷ 0 ∷ 0 ∷ 0 ∷ []) 0 0x2000004 11 [] [])
+unfolding run opsFrom opStep storeAll store direct writeLE
+pair-stored = refl

@@ -20,7 +20,7 @@ pub use Rattle.block.specs.declared.UnKind.the-variants.{Not, Neg, Abs, Rev, Cl
 pub use Rattle.block.specs.declared.DivKind.{DivKind}
 pub use Rattle.block.specs.declared.DivKind.the-variants.{QuoS, QuoU, RemS, RemU}
 pub use Rattle.block.specs.declared.Fast.{Fast}
-pub use Rattle.block.specs.declared.Fast.the-variants.{Nop, MovI, Mov, AddRI, ShlI, SarI, Alu3, Alu3I, Alu2, Alu2I, A4, Ext, MinMax, Un, Div, Mov2, Mov2I, BitExt, BitIns, SpAdd, RFromSp, Ld, St, LdIdx, StIdx, LdPost, StPost, Rmw, PushRet, PopRets, BrI, BrR, DecBr, BitBr, Goto, Call, Rts, GotoR, CallR, PopRet}
+pub use Rattle.block.specs.declared.Fast.the-variants.{Nop, MovI, Mov, AddRI, ShlI, SarI, Alu3, Alu3I, Alu2, Alu2I, A4, Ext, MinMax, Un, Div, Mov2, Mov2I, BitExt, BitIns, SpAdd, RFromSp, Ld, St, LdIdx, StIdx, LdPost, StPost, Rmw, PushRet, PopRets, BrI, BrR, DecBr, BitBr, Goto, Call, Rts, GotoR, CallR, PopRet, BlockMove, PushRets, PopPc, LdPair, StPair}
 pub use Rattle.block.specs.declared.BOp.{BOp}
 pub use Rattle.block.specs.declared.Layout.{Layout}
 pub use Rattle.block.specs.declared.Memory.{Memory}

@@ -1,11 +1,12 @@
 -- One step a kind. Document 01: "A kind's step is its `emit_op` case read as arithmetic on registers, sp and rets, without slots".
-use mathlib.Core.Bool.{Bool, false, cond}
-use mathlib.Core.List.{List}
-use Prim.Native.Nat.{ℕ, suc, _-_, _^_}
+use mathlib.Core.Bool.{Bool, true, false, cond}
+use mathlib.Core.List.{List, [], _∷_, reverse}
+use Prim.Native.Nat.{ℕ, suc, _-_, _*_, _^_}
 use lib.Bits.{bitAnd, bitOr, bitXor}
 use lib.Dec.{eqb}
+use Rattle.block.specs.Block.{members, span, saved, pairOf}
 use Rattle.card.specs.Kinds.{RmwOp, RmwOr, RmwAnd, RmwXor, RmwAdd, RmwSub, RmwMov, Cond, Eq, Ne, Width, B32, Memory}
-use Rattle.card.specs.Kinds.{Fast, Nop, MovI, Mov, AddRI, ShlI, SarI, Alu3, Alu3I, Alu2, Alu2I, A4, Ext, MinMax, Un, Div, Mov2, Mov2I, BitExt, BitIns, SpAdd, RFromSp, Ld, St, LdIdx, StIdx, LdPost, StPost, Rmw, PushRet, PopRets, BrI, BrR, DecBr, BitBr, Goto, Call, Rts, GotoR, CallR, PopRet}
+use Rattle.card.specs.Kinds.{Fast, Nop, MovI, Mov, AddRI, ShlI, SarI, Alu3, Alu3I, Alu2, Alu2I, A4, Ext, MinMax, Un, Div, Mov2, Mov2I, BitExt, BitIns, SpAdd, RFromSp, Ld, St, LdIdx, StIdx, LdPost, StPost, Rmw, PushRet, PopRets, BrI, BrR, DecBr, BitBr, Goto, Call, Rts, GotoR, CallR, PopRet, BlockMove, PushRets, PopPc, LdPair, StPair}
 use Rattle.card.specs.Word.{plus, minus, bit, shl, sar, alu, ext, holds, minMax, un, div, bitExt, bitIns}
 use Rattle.card.specs.Card.{Card, reg, baseOf, rhs, setReg, setSp, setRets, arrive, addReg, addSp}
 use Rattle.card.specs.Memory.{Access, got, unmet, load, store}
@@ -60,6 +61,50 @@ rmw m flash i w RmwAdd a v c = modify m flash i w a (λ x. plus x v) c
 rmw m flash i w RmwSub a v c = modify m flash i w a (λ x. minus x v) c
 rmw m flash i w RmwMov a v c = withStored (store m i w a v c) (λ c₁. on c₁)
 
+-- ---- groups: each word is a load or store of its own, RAM tried first, then XIP for a load, then the outside
+-- these registers, the first from place k of the words at an address; then what follows
+unfoldable pub loadAll : Memory → (flash : List ℕ) → (i start k : ℕ) → List ℕ → Card → (Card → After) → After
+loadAll m flash i start k [] c f = f c
+loadAll m flash i start k (r ∷ rs) c f =
+    withLoaded (load m flash i B32 false (plus start (4 * k)) c) (λ v c₁. loadAll m flash i start (suc k) rs (setReg r v c₁) f)
+
+unfoldable pub storeAll : Memory → (i start k : ℕ) → List ℕ → Card → (Card → After) → After
+storeAll m i start k [] c f = f c
+storeAll m i start k (r ∷ rs) c f =
+    withStored (store m i B32 (plus start (4 * k)) (reg c r) c) (λ c₁. storeAll m i start (suc k) rs c₁ f)
+
+abbrev pub moveAll : Memory → (flash : List ℕ) → (i : ℕ) → (store : Bool) → (start : ℕ) → List ℕ → Card → (Card → After) → After
+moveAll m flash i true start rs c f = storeAll m i start 0 rs c f
+moveAll m flash i false start rs c f = loadAll m flash i start 0 rs c f
+
+-- kind 40: where the words start, and the base behind
+abbrev pub moveStart : (down : Bool) → (base bytes : ℕ) → ℕ
+moveStart true x n = minus x n
+moveStart false x n = x
+
+abbrev pub moveEnd : (down : Bool) → (start bytes : ℕ) → ℕ
+moveEnd true x n = x
+moveEnd false x n = plus x n
+
+abbrev pub setIf : Bool → (r v : ℕ) → Card → Card
+setIf true r v c = setReg r v c
+setIf false r v c = c
+
+-- a word pushed, and one popped
+abbrev pub push : Memory → (i value : ℕ) → Card → (Card → After) → After
+push m i v c f = withStored (store m i B32 (minus (c .sp) 4) v (setSp (minus (c .sp) 4) c)) f
+
+abbrev pub pop : Memory → (flash : List ℕ) → (i : ℕ) → Card → (ℕ → Card → After) → After
+pop m flash i c f = withLoaded (load m flash i B32 false (c .sp) c) f
+
+unfoldable pub pushAll : Memory → (i : ℕ) → List ℕ → Card → (Card → After) → After
+pushAll m i [] c f = f c
+pushAll m i (r ∷ rs) c f = push m i (reg c r) c (λ c₁. pushAll m i rs c₁ f)
+
+unfoldable pub popAll : Memory → (flash : List ℕ) → (i : ℕ) → List ℕ → Card → (Card → After) → After
+popAll m flash i [] c f = f c
+popAll m flash i (r ∷ rs) c f = pop m flash i c (λ v c₁. popAll m flash i rs (addSp 4 (setReg r v c₁)) f)
+
 -- operation number i of a block, with the guest address behind it
 unfoldable pub opStep : Memory → (flash : List ℕ) → (i next : ℕ) → Fast → Card → After
 opStep m flash i next Nop c = on c
@@ -93,8 +138,8 @@ opStep m flash i next (StIdx s b x sh w) c = withStored (store m i w (plus (reg 
 opStep m flash i next (LdPost d b w signed inc) c = withLoaded (load m flash i w signed (reg c b) c) (λ v c₁. on (addReg b inc (setReg d v c₁)))
 opStep m flash i next (StPost s b w inc) c = withStored (store m i w (reg c b) (reg c s) c) (λ c₁. on (addReg b inc c₁))
 opStep m flash i next (Rmw b w op off v) c = rmw m flash i w op (plus (reg c b) off) v c
-opStep m flash i next PushRet c = withStored (store m i B32 (minus (c .sp) 4) (c .rets) (setSp (minus (c .sp) 4) c)) (λ c₁. on c₁)
-opStep m flash i next PopRets c = withLoaded (load m flash i B32 false (c .sp) c) (λ v c₁. on (addSp 4 (setRets v c₁)))
+opStep m flash i next PushRet c = push m i (c .rets) c (λ c₁. on c₁)
+opStep m flash i next PopRets c = pop m flash i c (λ v c₁. on (addSp 4 (setRets v c₁)))
 opStep m flash i next (BrI a v q target) c = fork (holds q (reg c a) v) i next target c
 opStep m flash i next (BrR a b q target) c = fork (holds q (reg c a) (reg c b)) i next target c
 opStep m flash i next (DecBr r q v target) c = let x : ℕ = minus (reg c r) 1 in fork (holds q x v) i next target (setReg r x c)
@@ -105,4 +150,12 @@ opStep m flash i next (Call target) c = chain i 0 target (setRets next c)
 opStep m flash i next Rts c = ind i (c .rets) c
 opStep m flash i next (GotoR r) c = ind i (reg c r) c
 opStep m flash i next (CallR r) c = ind i (reg c r) (setRets next c)
-opStep m flash i next PopRet c = withLoaded (load m flash i B32 false (c .sp) c) (λ v c₁. indBrk i v (addSp 4 c₁))
+opStep m flash i next PopRet c = pop m flash i c (λ v c₁. indBrk i v (addSp 4 c₁))
+opStep m flash i next (BlockMove r mask u post down) c =
+    let start : ℕ = moveStart down (reg c r) (span mask) in
+    moveAll m flash i u start (members mask) c (λ c₁. on (setIf post r (moveEnd down start (span mask)) c₁))
+opStep m flash i next (PushRets n) c = push m i (c .rets) c (λ c₁. pushAll m i (reverse (saved n)) c₁ (λ c₂. on c₂))
+opStep m flash i next (PopPc n) c = popAll m flash i (saved n) c (λ c₁. pop m flash i c₁ (λ v c₂. indBrk i v (addSp 4 c₂)))
+-- the address stays as it was before the first load
+opStep m flash i next (LdPair p b off) c = loadAll m flash i (plus (baseOf c b) off) 0 (pairOf p) c (λ c₁. on c₁)
+opStep m flash i next (StPair p b off) c = storeAll m i (plus (baseOf c b) off) 0 (pairOf p) c (λ c₁. on c₁)

@@ -3,4 +3,10 @@ pub mod Fields
 pub mod Loads
 pub mod Stores
 pub mod Jumps
+pub mod Masks
+pub mod Spans
+pub mod Pushes
+pub mod Pops
+pub mod PairLoads
+pub mod PairStores
 pub mod Whole

@@ -3,7 +3,7 @@ use mathlib.Core.Bool.{true, false}
 use mathlib.Core.List.{List, [], _∷_}
 use mathlib.Core.Path.{_≡_, refl}
 use Rattle.block.specs.declared.Op.the-variants.{Add, Sub, RSub}
-use Rattle.block.specs.declared.RmwOp.the-variants.{Sub as RmwSub, Mov as RmwMov}
+use Rattle.block.specs.declared.RmwOp.the-variants.{Add as RmwAdd, Sub as RmwSub, Mov as RmwMov}
 use Rattle.block.specs.declared.Cond.the-variants.{GtU, GtS, LeS}
 use Rattle.block.specs.declared.Base.the-variants.{Reg, Sp}
 use Rattle.block.specs.declared.Width.the-variants.{Byte as B8, Half as B16, Word as B32}
@@ -11,16 +11,18 @@ use Rattle.block.specs.declared.Rk.the-variants.{Bit as RkBit}
 use Rattle.block.specs.declared.Part.the-variants.{Byte as PartByte}
 use Rattle.block.specs.declared.Choice.the-variants.{MaxU}
 use Rattle.block.specs.declared.DivKind.the-variants.{RemU}
-use Rattle.block.specs.declared.Fast.the-variants.{Nop, MovI, AddRI, SarI, Alu3, Ext, MinMax, Div}
-use Rattle.block.specs.declared.Fast.the-variants.{Ld, St, LdIdx, LdPost, StPost, Rmw, PopRets, BrI}
-use Rattle.block.specs.declared.Fast.the-variants.{BrR, BitBr, Call, CallR}
+use Rattle.block.specs.declared.Fast.the-variants.{Nop, MovI, Mov, AddRI, SarI, Alu3, Ext, MinMax}
+use Rattle.block.specs.declared.Fast.the-variants.{Div, SpAdd, Ld, St, LdIdx, LdPost, StPost, Rmw}
+use Rattle.block.specs.declared.Fast.the-variants.{PopRets, BrI, BrR, BitBr, Call, Rts, CallR, BlockMove}
+use Rattle.block.specs.declared.Fast.the-variants.{PushRets, PopPc, LdPair, StPair}
+use Rattle.block.specs.Block.{places, upFrom}
 use Rattle.card.specs.Card.{read, write}
 use Rattle.card.specs.Word.{signedOf, signExtend, leadingZeros}
 use Rattle.card.specs.Memory.{readLE, writeLE, load, direct, store}
-use Rattle.card.specs.Step.{opStep}
+use Rattle.card.specs.Step.{opStep, loadAll, storeAll, pushAll, popAll}
 use Rattle.card.specs.Run.{opsFrom, run}
 use Rattle.card_runs.specs.Case.{Case, runs, reached, expected, block, memory, op, hex, regs, card}
-use Rattle.card_runs.specs.Case.{outcome, entry, byReturn, byChain, reg, sp, rets, hold, brk, pc, done, ram, _&_}
+use Rattle.card_runs.specs.Case.{outcome, entry, byReturn, byTable, byChain, reg, sp, rets, hold, brk, pc, done, ram, map, _&_}
 
 abbrev cases : List Case
 cases =
@@ -109,8 +111,75 @@ cases =
     [] (byChain 1) (reg 0 0x1005 & reg 3 0xea & reg 5 0xd5 & reg 10 0x3e4b90bb & reg 11 0xd5 & reg 12 0xffffff26 & reg 13 9 & reg 15 4
     & pc 3 & done 0xd & ram (hex 4 0x14fa4006)) (read 0x3e4b80bb 1 4 ∷ write 0xfffffffd 2 6 0xfd2a ∷ write 1 4 8 0xea
     ∷ write 0xffff8001 1 0xa 0xfff ∷ write 4 4 0xb 0xff ∷ [])
+    -- all/01-limit-exact/0
+    ∷ runs (block (memory 0x3000010 0x10 0x3000000 0x10 false) 0x2505d06 (op (PopPc 5) 2 false ∷ []))
+    (hex 16 0xa6aeefe4a7eaeaa3aa1f982e80937fc6) 0x2700a795
+    (card (regs 0x0300001f0300000700000000030000160000000302ffffff030000150300001a
+    0x0300001f02ffffff02fffffd03000016030000230300000efffffffecd8f2789) 0x3000020 0x20 1 0 0x65fd775c 0x2700a794
+    (hex 16 0x44f97d455b273ca7b36d9be5528c3c8d) [] (outcome 0xffffffff 0 (hex 16 0x44f999455b270ea7b36d9be5528c3c8d) []
+    ∷ outcome 0xe9d8d394 0 (hex 16 0x44f999455b270ea7b36d9be5528c3c8d) []
+    ∷ outcome 0xb7dfb4fa 0 (hex 16 0x44f999455b270ea7b36d9be5fa8c3c8d) [] ∷ []))
+    (entry 0x1a7d 0xb0dad03b ∷ []) byReturn (reg 4 0xffffffff & reg 5 0xe9d8d394 & sp 0x300002c & pc 0xb7dfb4fa & done 0x2700a795
+    & ram (hex 16 0x44f999455b270ea7b36d9be5fa8c3c8d)) (read 0x3000020 4 0x2700a794 ∷ read 0x3000024 4 0x2700a794
+    ∷ read 0x3000028 4 0x2700a794 ∷ [])
+    -- all/01-done-index/0
+    ∷ runs (block (memory 0xfffffff0 0x10 0x1000 0x10 true) 0x29abef5 (op (PushRets 5) 0x88 true ∷ op (PushRets 5) 0xff true
+    ∷ op (BlockMove 9 0x100 true false false) 0xff true ∷ op (PopPc 1) 4 false ∷ [])) (hex 16 0xe136f8b163b12af4c5180d2bb069ad1a)
+    0xffffffff
+    (card (regs 0xfffffff40000100ffffffff4000010060000100efffffff083c246d8fffffffc
+    0x00000fff00000ffe0000100600000fff00000ffc000010025a2e43e200001002) 0x1008 0x20 1 0 0x61642ece 0xffe
+    (hex 16 0x5c193692bb6e849896c602c24302cb2d) (hex 4 0x008001ff)
+    (outcome 0x7fffffff 0 (hex 16 0x67193692bb6e849896c602c24302cb2d) (hex 4 0x000001ff)
+    ∷ outcome 0x7fffffff 0 (hex 16 0x67193692bb6e849896c602c24302cb2d) (hex 4 0x000001ff)
+    ∷ outcome 1 0 (hex 16 0x67193692bb4d849896c602c24302cb2d) (hex 4 0x400001ff)
+    ∷ outcome 1 0 (hex 16 0x67193692bb4d849896c602c24302cb2d) (hex 4 0x400001ff)
+    ∷ outcome 0xffffffff 0 (hex 16 0x67193692bb4d846e96c602c24302cb2d) (hex 4 0x000001ff)
+    ∷ outcome 0xffffffff 0 (hex 16 0x67193692bb4d846e96c602c24302cb2d) (hex 4 0x000001ff)
+    ∷ outcome 0x7fffffff 0 (hex 16 0x67353692bb4d846eb4c602c24302cb2d) (hex 4 0x40000140)
+    ∷ outcome 0x80000000 0 (hex 16 0x67353692bb4d846eb4c602c24302cb2d) (hex 4 0x40000140)
+    ∷ outcome 0xffffffff 0 (hex 16 0x67353692bb4d846e09c602c24302cb2f) (hex 4 0x00000140)
+    ∷ outcome 0x4125148d 0 (hex 16 0x95353692bb4d846e09c602c243022c2f) (hex 4 0x00400040)
+    ∷ outcome 0xffffffff 0 (hex 16 0x95353692bb4d846e09c602c243022c2f) (hex 4 0x00400040)
+    ∷ outcome 0x57 0 (hex 16 0xc3b3115ff0f2bbf6f311fbb19638e2b3) (hex 4 0x9311dc9d)
+    ∷ outcome 0x4c 0 (hex 16 0x36e6ec77cf844dbbd8c6e4e46b493efc) (hex 4 0xe35fc9fc) ∷ []))
+    (entry 0x3fff 0xfffffffe ∷ []) byReturn (reg 1 0x80000000 & reg 2 0xffffffff & reg 3 0x4125148d & sp 0x1000 & pc 0xffffffff
+    & done 0x1002 & ram (hex 16 0x95353692bb4d846e09c602c243022c2f) & map (hex 4 0x00400040)) (write 0x1004 4 0xffe 0x20
+    ∷ write 0x1000 4 0xffe 0xfffffff0 ∷ write 0xffc 4 0xffe 0x100e ∷ write 0xff8 4 0xfff 0x20 ∷ write 0xff4 4 0xfff 0xfffffff0
+    ∷ write 0xff0 4 0xfff 0x100e ∷ write 0xffe 4 0x1000 0xfff ∷ read 0xff0 4 0x1001 ∷ read 0xff4 4 0x1001 ∷ read 0xff8 4 0x1001
+    ∷ read 0xffc 4 0x1001 ∷ [])
+    -- all/01-groups-6-breaks/0
+    ∷ runs (block (memory 0x1000 0x10 0x1008 0x10 true) 0x20684f8 (op (LdPair 0x10 (Reg 3) 0xfffffffc) 0 true
+    ∷ op (BlockMove 4 0x400 true true false) 0xff true ∷ op (LdPair 0x3f (Reg 14) 1) 0 false ∷ op (LdPair 0xb (Reg 9) 2) 2 true
+    ∷ op (StPair 1 (Reg 10) 0xfffffffc) 2 false ∷ op Rts 0xff true ∷ [])) (hex 16 0x65ade2858e7f02e58ab7a485f1deb0c6) 0xffffffff
+    (card (regs 0x000010140000100300001002ffff00000000100e000010120000100bfffff000
+    0x0000101000000ffe00001009ffff000000001007000010040000100f00001003) 0x1018 0x5798e6ca 0 0 0xf118f63a 0
+    (hex 16 0x213692dcaeb2e10e11fc19ed81e4c455) (hex 4 0x01010000)
+    (outcome 0x7fffffff 0 (hex 16 0x213692dcaeb2e10e11fc19ed81e4c455) (hex 4 0x01010000)
+    ∷ outcome 0x7fffffff 0x100 (hex 16 0x213692dcaeb2e10e11fc19ed81e4c455) (hex 4 0x01010000) ∷ []))
+    (entry 0x27c 0x20684f8 ∷ []) byReturn (reg 0 0x7fffffff & reg 1 0x7fffffff & hold 1 & brk 0x100 & pc 0x20684f8 & done 1)
+    (read 0xfffefffc 4 0 ∷ read 0xffff0000 4 0 ∷ [])
+    -- all/01-mixed-12/0
+    ∷ runs (block (memory 0x20000000 0x10 0x8000000 0x10 false) 0x2f83e19 (op (MovI 1 8) 6 false ∷ op PopRets 4 true
+    ∷ op (LdPair 0x40 (Reg 11) 1) 0xff false ∷ op (LdPair 2 Sp 0) 0 true ∷ op (MovI 0xa 0x5b63d603) 4 false
+    ∷ op (Rmw 0 B16 RmwAdd 4 0x8000011) 2 true ∷ op Nop 4 true ∷ op (LdPair 8 Sp 0xfffffffc) 2 true ∷ op (Mov 0xf 0xc) 4 false
+    ∷ op (SpAdd 0x8000004) 0x53 false ∷ op (LdIdx 0xd 8 9 0 B32 true) 0x45 true ∷ op (CallR 7) 0xff true ∷ []))
+    (hex 16 0x3807cacb89a1dbf8fda45eb4389a10dc) 0xffffffff
+    (card (regs 0x2000000b00000020034ca76b20000000000000040800000e41bddd7220000008
+    0x08000010080000132000000308000005200000080800001220000005cd3a8b20) 0x2000000d 0x7176983b 2 0 0xe39a20f8 1
+    (hex 16 0x006ed92ca16fed81cf05044284fc717a) [] (outcome 1 0 (hex 16 0x006ed92ca16fed81cf05044284fc717a) []
+    ∷ outcome 0x513f8ec4 0 (hex 16 0x006ed92ca16fed81cf05044284fc717a) []
+    ∷ outcome 0x80000000 0 (hex 16 0x006ed92ca1c8ed19cf05044284fc717a) []
+    ∷ outcome 0xffff 0 (hex 16 0x006ed92ca1c8ed19cf05044284fc737a) [] ∷ outcome 0x8000 0 (hex 16 0x006ed92c67c8ed19cf05044284fc737a) []
+    ∷ outcome 0xffffffff 0 (hex 16 0x006ed92c67c8ed19cf05044284fc737a) []
+    ∷ outcome 0xffffffff 0 (hex 16 0x006ed92c67c8ed19cf056242eefc737a) [] ∷ outcome 0 0 (hex 16 0x006ed92c67c8ed19cf056242eefcac7a) []
+    ∷ outcome 0x15 1 (hex 16 0x66076f241bf6b56402173823bff69112) []
+    ∷ outcome 0xc9 0xffffffff (hex 16 0x3b106615ea29d1bccadc08341768419a) [] ∷ []))
+    (entry 4 0x20000008 ∷ []) byTable (reg 0 0xffffffff & reg 1 0xffffffff & reg 4 0x513f8ec4 & reg 5 0x80000000 & reg 10 0x5b63d603
+    & reg 13 0 & reg 15 0x20000008 & sp 0x28000015 & rets 0x2f840c9 & pc 0x20000008 & done 0xd
+    & ram (hex 16 0x006ed92c67c8ed19cf056242eefcac7a)) (read 0x2000000d 4 2 ∷ read 0x20000011 4 4 ∷ read 0x20000015 4 4
+    ∷ read 0xa4fdf8df 2 6 ∷ write 0xa4fdf8df 2 6 0x8010010 ∷ read 0x2000000d 4 8 ∷ read 0x20000011 4 8 ∷ read 0x10000023 4 0xb ∷ [])
     ∷ []
 
 pub all-reach : reached cases ≡ expected cases
-unfolding run opsFrom opStep load direct store readLE writeLE signedOf signExtend leadingZeros
+unfolding run opsFrom opStep load direct store readLE writeLE signedOf signExtend leadingZeros loadAll storeAll pushAll popAll places upFrom
 all-reach = refl

@@ -25,6 +25,8 @@ use block::Cond;
 use block::Fast;
 use block::Op;
 use block::Part;
+use block::jumps;
+use block::on_bus;
 
 const KEEP: u32 = 23;
 
@@ -289,7 +291,7 @@ pub fn acond(c: Cond) -> u32
 }
 
 // The number of a kind.
-pub fn kind(f: Fast) -> u32
+pub fn kind(f: Fast) -> u8
     ensures { λ r. ⌜ r ≡ kindOf f ⌝ }
 {
     match f {
@@ -333,23 +335,22 @@ pub fn kind(f: Fast) -> u32
         Fast::GotoR { .. } => 37,
         Fast::CallR { .. } => 38,
         Fast::PopRet => 39,
+        Fast::BlockMove { .. } => 40,
+        Fast::PushRets { .. } => 41,
+        Fast::PopPc { .. } => 42,
+        Fast::LdPair { .. } => 43,
+        Fast::StPair { .. } => 44,
     }
 }
 
-// Kinds 21 to 29.
 pub fn uses_bus(f: Fast) -> bool
     ensures { λ r. ⌜ r ≡ usesBus f ⌝ }
 {
-    let k = kind(f);
-    if k < 21 {
-        return false;
-    }
-    k < 30
+    on_bus(kind(f))
 }
 
-// Kinds 30 to 39.
 pub fn may_jump(f: Fast) -> bool
     ensures { λ r. ⌜ r ≡ mayJump f ⌝ }
 {
-    kind(f) >= 30
+    jumps(kind(f))
 }

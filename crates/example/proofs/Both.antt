@@ -13,20 +13,23 @@ use Rattle.machine.specs.Memory.{readLE, writeLE, within, locate, load, store, 
 use Rattle.machine.specs.Execute.{execute}
 use Rattle.machine.specs.Encoders.{encoders, hasEncoder}
 use Rattle.machine.specs.Machine.{atReturn, Run, fetch, instruction, step, run}
+use Rattle.block.specs.Block.{places}
 use Rattle.card.specs.Word.{signExtend}
-use Rattle.card.specs.Card.{Card, read}
+use Rattle.card.specs.Card.{Card, read, write}
 use Rattle.card.specs.Memory.{readLE as cardReadLE, writeLE as cardWriteLE, load as cardLoad, store as cardStore, direct}
-use Rattle.card.specs.Step.{chains, opStep}
+use Rattle.card.specs.Step.{chains, storeAll, opStep}
 use Rattle.card.specs.Run.{left, opsFrom, run as runCard}
 use Rattle.demand.specs.Outside.{allArm}
 use Rattle.example.proofs.Common.{helpers, wordsAt}
 use Rattle.example.proofs.Start.{block, listing, after, flash, card, start}
 
--- registers 0, 3, 4, 6 and 8 changed, RAM as the outside left it, six operations done and one request of the sixth
+-- registers 0, 3, 4, 6 and 8 changed, RAM as the outside left it, six operations done and a request each of the fifth and the sixth
 abbrev pub end : Card
 end =
     record {
-      regs = 0x12345678 ∷ 0x20000000 ∷ 0x10 ∷ 0x20000010 ∷ 0xffff8001 ∷ 9 ∷ 0xfffffffe ∷ 0x20000000 ∷ 0x40000000 ∷ 109 ∷ 110 ∷ 111 ∷ 112 ∷ 113 ∷ 114 ∷ 115 ∷ [];
+      regs =
+          0x12345678 ∷ 0x20000000 ∷ 0x3c ∷ 0x20000044 ∷ 0xffff8001 ∷ 9 ∷ 0xfffffffe ∷ 0x20000000 ∷ 0x40000000
+          ∷ 109 ∷ 110 ∷ 111 ∷ 112 ∷ 113 ∷ 114 ∷ 115 ∷ [];
       sp = card .sp;
       rets = card .rets;
       hold = 0;
@@ -35,18 +38,18 @@ end =
       brk = 0;
       pc = 0x02000110;
       done = 6;
-      requests = read 0x40000006 2 5 ∷ [];
+      requests = write 0x20000040 4 4 0xfffffffe ∷ read 0x40000006 2 5 ∷ [];
       outcomes = [];
     }
 
 pub card-ends : runCard block flash 100 card ≡ left (chains 0) end
-unfolding runCard opsFrom opStep cardLoad cardStore direct cardReadLE cardWriteLE signExtend
+unfolding runCard opsFrom places storeAll opStep cardLoad cardStore direct cardReadLE cardWriteLE signExtend
 card-ends = refl
 
 -- ---- the machine, allowed as many steps as there are words
 pub ran : Run
 unfolding listing bytesOfWords run step fetch instruction execute encoders hasEncoder load store locate within readLE writeLE SInt SignExtend CountLeadingZeroBits AddWithCarry ConditionHolds decode find sizeOf addSubOf flagsOf shiftOf moveOf logicOf secondOf extractOf oneOf twoOf threeOf selectOf accessOf scaleOf modeOf pairOf testOf jumpOf floatOf convertOf
-ran = run 198 helpers start
+ran = run 232 helpers start
 
 pub returns : ran .status ≡ atReturn
 unfolding ran
@@ -57,7 +60,8 @@ unfolding ran readLE
 registers = refl
 
 -- sp, rets, pc and hold in the record, the done count in register 0
-pub cells : _≡_ {A = List ℕ} (getD (ran .state .x) 0 0 ∷ wordsAt (bytesOf (ran .state .mem) processor) 64 4) (end .done ∷ end .sp ∷ end .rets ∷ end .pc ∷ end .hold ∷ [])
+pub cells : _≡_ {A = List ℕ} (getD (ran .state .x) 0 0 ∷ wordsAt (bytesOf (ran .state .mem) processor) 64 4)
+    (end .done ∷ end .sp ∷ end .rets ∷ end .pc ∷ end .hold ∷ [])
 unfolding ran readLE
 cells = refl
 
@@ -70,6 +74,6 @@ unfolding ran
 requests-end = refl
 
 -- the address of the one chain site
-pub slot : readLE (bytesOf (ran .state .mem) context) 32 8 ≡ 0x100000 + 4 * 179
+pub slot : readLE (bytesOf (ran .state .mem) context) 32 8 ≡ 0x100000 + 4 * 213
 unfolding ran readLE
 slot = refl

@@ -6,16 +6,18 @@
 -- Assumes nothing.
 use mathlib.Core.Path.{_≡_, refl, ap}
 use mathlib.Core.Logic.{_≢_, _⊎_, inl, inr}
-use mathlib.Core.Bool.{Bool, false}
+use mathlib.Core.Bool.{Bool, true, false, _&&_}
 use mathlib.Core.List.{List, [], _∷_, _++_}
 use Prim.Native.Nat.{ℕ, zero, suc, _+_, _*_, _^_, _≤_, _<_}
 use native.Mathlib.Omega.{arith}
+use borrow.Author.Tests.{leb-true}
+use lib.Dec.{leb}
 use lib.ListN.{length, replicate}
 use Rattle.block.specs.declared.Fast.the-variants.{Nop}
 use Rattle.block.specs.declared.BOp.{BOp}
 use Rattle.block.specs.declared.Block.{Block}
-use Rattle.block.specs.Block.{opsOf}
-use Rattle.block.specs.Checked.{OpsFit, NoneAfterJump, Checked}
+use Rattle.block.specs.Block.{opsOf, moved}
+use Rattle.block.specs.Checked.{OpsFit, NoneAfterJump, GroupsFit, Checked}
 use Rattle.machine.specs.State.{Region, Outcome, State}
 use Rattle.machine.specs.Memory.{readLE, bytesOfWords, baseOf, sizeOf, Apart, Disjoint}
 use Rattle.machine.specs.Execute.{Helpers}
@@ -46,9 +48,23 @@ padded-length zero os = refl
 padded-length (suc k) [] = ap suc (padded-length k [])
 padded-length (suc k) (o ∷ os) = ap suc (padded-length k os)
 
+-- a group of at most four words is no longer than XIP's sixteen bytes, nor than RAM
+abbrev few : List BOp → Bool
+few [] = true
+few (o ∷ os) = leb (moved (o .fast)) 4 && few os
+
+groups-fit : (m : Bool) (os qs : List BOp) → few qs ≡ true → GroupsFit (blockOf m os .memory) qs
+groups-fit m os [] e = tt
+groups-fit m os (o ∷ qs) e = by (leb (moved (o .fast)) 4) refl e (groups-fit m os qs)
+  where
+    by : (u : Bool) → leb (moved (o .fast)) 4 ≡ u → u && few qs ≡ true → (few qs ≡ true → GroupsFit (blockOf m os .memory) qs)
+        → GroupsFit (blockOf m os .memory) (o ∷ qs)
+    by true h k g = let l : moved (o .fast) ≤ 4 = leb-true (moved (o .fast)) 4 h in ((omega arith, omega arith), g k)
+    by false h k g = absurd (let z : _≡_ {A = ℕ} 0 1 = cc in omega arith)
+
 pub checked-of : (m : Bool) (os : List BOp) → length os ≤ 32
-    → OpsFit (opsOf (blockOf m os)) → NoneAfterJump (opsOf (blockOf m os)) → Checked (blockOf m os)
-checked-of m os l f n =
+    → OpsFit (opsOf (blockOf m os)) → NoneAfterJump (opsOf (blockOf m os)) → few (opsOf (blockOf m os)) ≡ true → Checked (blockOf m os)
+checked-of m os l f n g =
     record {
       layout =
           record {
@@ -80,6 +96,7 @@ checked-of m os l f n =
       size = padded-length 32 os;
       ops = f;
       last-jumps = n;
+      groups = groups-fit m os (opsOf (blockOf m os)) g;
     }
 
 -- ---- the machine

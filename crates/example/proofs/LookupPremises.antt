@@ -23,7 +23,8 @@ use Rattle.example.proofs.LookupBoth.{end, card-ends}
 pub checked : Checked block
 checked =
     checked-of false ops (omega arith)
-    (record { fast = (omega arith, omega arith, omega arith); len = omega arith }, (record { fast = omega arith; len = omega arith }, tt)) (refl, tt)
+    (record { fast = (omega arith, omega arith, omega arith); len = omega arith }, (record { fast = omega arith; len = omega arith }, tt))
+    (refl, tt) refl
 
 -- ---- the regions
 with-entry : (n : ℕ) → length (entry ++ replicate n 0) ≡ 16 + n
@@ -65,9 +66,9 @@ break-set : readLE context 24 4 ≡ 1
 unfolding readLE
 break-set = refl
 
-places : PlacesIn (block .layout) (sizeOf memory processor)
+places-in : PlacesIn (block .layout) (sizeOf memory processor)
 unfolding bytesOfWords
-places = record { regs = omega arith; sp = omega arith; rets = omega arith; pc = omega arith; hold = omega arith }
+places-in = record { regs = omega arith; sp = omega arith; rets = omega arith; pc = omega arith; hold = omega arith }
 
 -- "at the body": done 7 and two operations are the limit
 body-pc : start .pc ≡ baseOf memory codeAt + bodyOffset
@@ -109,7 +110,7 @@ premises-met =
       done-lt = omega arith;
       aligned = refl;
       apart = apart-of card listing context flash table small;
-      places = places;
+      places = places-in;
       ram-size = refl;
       xip-size = refl;
       map-size = λ e. absurd (let z : _≡_ {A = ℕ} 0 1 = cc in omega arith);

@@ -12,6 +12,7 @@ use Rattle.machine.specs.State.{processor, code as codeAt, table as tableAt}
 use Rattle.machine.specs.Memory.{readLE, bytesOfWords, bytesOf, sizeOf}
 use Rattle.card.specs.Card.{reg}
 use Rattle.card.specs.Step.{chains}
+use Rattle.block.specs.Block.{places}
 use Rattle.block.specs.Checked.{Checked}
 use Rattle.demand.specs.Premises.{first, AtFirst, Held, PlacesIn, Elsewhere, Premises}
 use Rattle.example.proofs.Common.{helpers, checked-of, Each, each, Small, apart-of, elsewhere-of, not-stopped}
@@ -19,6 +20,7 @@ use Rattle.example.proofs.Start.{ops, block, listing, listing-is, outsi
 use Rattle.example.proofs.Both.{end, card-ends}
 
 pub checked : Checked block
+unfolding places
 checked =
     checked-of true ops (omega arith) (
       record { fast = (omega arith, omega arith); len = omega arith },
@@ -29,14 +31,14 @@ checked =
           (
             record { fast = (omega arith, omega arith, omega arith); len = omega arith },
             (
-              record { fast = (omega arith, omega arith, omega arith); len = omega arith },
+              record { fast = (omega arith, omega arith); len = omega arith },
               (record { fast = (omega arith, omega arith, omega arith); len = omega arith }, tt),
             ),
           ),
         ),
       ),
     )
-    (refl, (refl, (refl, (refl, (refl, tt)))))
+    (refl, (refl, (refl, (refl, (refl, tt))))) refl
 
 -- ---- the regions
 table-long : sizeOf memory tableAt ≡ 16384 * 16
@@ -75,9 +77,9 @@ no-break : readLE context 24 4 ≡ 0
 unfolding readLE
 no-break = refl
 
-places : PlacesIn (block .layout) (sizeOf memory processor)
+places-in : PlacesIn (block .layout) (sizeOf memory processor)
 unfolding bytesOfWords
-places = record { regs = omega arith; sp = omega arith; rets = omega arith; pc = omega arith; hold = omega arith }
+places-in = record { regs = omega arith; sp = omega arith; rets = omega arith; pc = omega arith; hold = omega arith }
 
 -- "Start at the first word", with the limit 100
 at-first : AtFirst block 100 card start
@@ -115,7 +117,7 @@ premises-met =
       done-lt = omega arith;
       aligned = refl;
       apart = apart-of card listing context flash table small;
-      places = places;
+      places = places-in;
       ram-size = refl;
       xip-size = refl;
       map-size = λ _. refl;
@@ -126,7 +128,7 @@ premises-met =
       read-elsewhere = elsewhere 0x900000 (omega arith);
       write-elsewhere = elsewhere 0xa00000 (omega arith);
       outcomes = refl;
-      fit = (record { brk = omega arith; ram = refl; map = refl }, tt);
+      fit = (record { brk = omega arith; ram = refl; map = refl }, (record { brk = omega arith; ram = refl; map = refl }, tt));
       enough = not-stopped (chains 0) end card-ends;
       context-size = omega arith;
       table-size = table-long;

@@ -6,36 +6,41 @@ use mathlib.Core.Path.{_≡_, refl, ap}
 use mathlib.Core.Bool.{Bool, true, false, cond, not, _&&_}
 use mathlib.Core.List.{List, [], _∷_, _++_}
 use mathlib.Core.Option.{none}
-use Prim.Native.Nat.{ℕ, suc, _+_, _^_, _<_}
+use Prim.Native.Nat.{ℕ, suc, _+_}
 use native.Mathlib.Numerals.{add-one}
 use lib.Dec.{eqb}
 use Rattle.block.specs.declared.Fast.{Fast}
-use Rattle.block.specs.declared.Fast.the-variants.{Nop, MovI, Mov, AddRI, ShlI, SarI, Alu3, Alu3I, Alu2, Alu2I, A4, Ext, MinMax, Un, Div, Mov2, Mov2I, BitExt, BitIns, SpAdd, RFromSp, Ld, St, LdIdx, StIdx, LdPost, StPost, Rmw, PushRet, PopRets, BrI, BrR, DecBr, BitBr, Goto, Call, Rts, GotoR, CallR, PopRet}
+use Rattle.block.specs.declared.Fast.the-variants.{Nop, MovI, Mov, AddRI, ShlI, SarI, Alu3, Alu3I, Alu2, Alu2I, A4, Ext, MinMax, Un, Div, Mov2, Mov2I, BitExt, BitIns, SpAdd, RFromSp, Ld, St, LdIdx, StIdx, LdPost, StPost, Rmw, PushRet, PopRets, BrI, BrR, DecBr, BitBr, Goto, Call, Rts, GotoR, CallR, PopRet, BlockMove, PushRets, PopPc, LdPair, StPair}
 use Rattle.block.specs.declared.BOp.{BOp}
 use Rattle.block.specs.declared.Block.{Block}
 use Rattle.block.specs.Block.{usesBus}
 use Rattle.block.specs.Checked.{FastFits, BOpFits}
 use Rattle.card.specs.Card.{Card, setHold, arrive}
-use Rattle.card.specs.Step.{Way, exits, After, on, out, starved, opStep}
+use Rattle.card.specs.Step.{exits, After, on, out, starved, opStep}
 use Rattle.card.specs.Run.{checkBrk, checked}
 use Rattle.code.specs.Items.{pick}
 use Rattle.lowering.specs.Steps.{Step, lowered, opSteps}
 use Rattle.relation.specs.Relation.{Small}
-use Rattle.relation.specs.Abs.{Abs, Then, go, off, void, upd, mstep, mrun, andThen}
+use Rattle.relation.specs.Abs.{Abs, Then, go, off, void, withTemp, mstep, mrun, andThen}
 use Rattle.kinds.specs.Agrees.{Agrees}
 use Rattle.kinds.proofs.Kind.{kind}
 use Rattle.kinds.proofs.Kind.{nop, movI, mov, addRI, shlI, sarI, alu3, alu3I, alu2, alu2I, a4, ext-kind, minMax-kind, un-kind, div-kind, mov2, mov2I, bitExt-kind, bitIns-kind, spAdd, rFromSp}
 use Rattle.kinds.proofs.Bus.{ld, st, ldIdx, stIdx, ldPost, stPost, rmw-kind, pushRet, popRets}
+use Rattle.kinds.proofs.Groups.{blockMove, pushRets, popPc, ldPair, stPair}
 use Rattle.kinds.proofs.Jumps.{brI, brR, decBr, bitBr, goto-kind, call-kind, rts, gotoR, callR, popRet}
 
 -- steps in two parts
-pub mrun-append : (b : Block) (flash : List ℕ) (limit : ℕ) (ss ts : List Step) (a : Abs) → mrun b flash limit (ss ++ ts) a ≡ andThen (mrun b flash limit ss a) (λ a₁. mrun b flash limit ts a₁)
+pub mrun-append : (b : Block) (flash : List ℕ) (limit : ℕ) (ss ts : List Step) (a : Abs)
+    → mrun b flash limit (ss ++ ts) a ≡ andThen (mrun b flash limit ss a) (λ a₁. mrun b flash limit ts a₁)
 unfolding mrun
 mrun-append b flash limit [] ts a = refl
 mrun-append b flash limit (s ∷ ss) ts a = step (mstep b flash limit s a) (λ a₁. mrun-append b flash limit ss ts a₁)
   where
-    step : (r : Then) → ((a₁ : Abs) → mrun b flash limit (ss ++ ts) a₁ ≡ andThen (mrun b flash limit ss a₁) (λ a₂. mrun b flash limit ts a₂))
-        → andThen r (λ a₁. mrun b flash limit (ss ++ ts) a₁) ≡ andThen (andThen r (λ a₁. mrun b flash limit ss a₁)) (λ a₂. mrun b flash limit ts a₂)
+    runs : List Step → Abs → Then
+    runs l a₁ = mrun b flash limit l a₁
+
+    step : (r : Then) → ((a₁ : Abs) → runs (ss ++ ts) a₁ ≡ andThen (runs ss a₁) (runs ts))
+        → andThen r (runs (ss ++ ts)) ≡ andThen (andThen r (runs ss)) (runs ts)
     step (go a₁) h = h a₁
     step (off w c) h = refl
     step void h = refl
@@ -82,6 +87,11 @@ module _ (b : Block) (flash : List ℕ) (limit i next : ℕ) (a : Abs) (small : 
   kind-agrees (GotoR r) h = gotoR b flash limit i next a small r
   kind-agrees (CallR r) h = callR b flash limit i next a small r
   kind-agrees PopRet h = popRet b flash limit i next a small
+  kind-agrees (BlockMove r mask u post down) h = blockMove b flash limit i next a small r mask u post down
+  kind-agrees (PushRets n) h = pushRets b flash limit i next a small n
+  kind-agrees (PopPc n) h = popPc b flash limit i next a small n
+  kind-agrees (LdPair p r o) h = ldPair b flash limit i next a small p r o
+  kind-agrees (StPair p r o) h = stPair b flash limit i next a small p r o
 
   -- the break check behind kinds that use the bus
   check-agrees : (glue bus : Bool) (a₁ : Abs) (c : Card) → a₁ .c ≡ c
@@ -91,18 +101,26 @@ module _ (b : Block) (flash : List ℕ) (limit i next : ℕ) (a : Abs) (small : 
   check-agrees glue false a₁ c e = e
   check-agrees glue true a₁ c e = rw (← e) (by (eqb (a₁ .c .brk) 0))
     where
-      by : (u : Bool) → Agrees (cond (not u) (out exits (arrive next (suc i) (setHold (cond glue 1 (a₁ .c .hold)) (a₁ .c)))) (on (a₁ .c)))
-          (andThen (cond u (go (record { c = a₁ .c; t = upd (a₁ .t) 9 none; f = a₁ .f })) (off exits (arrive next (i + 1) (setHold (cond glue 1 (a₁ .c .hold)) (a₁ .c))))) (λ a₂. go a₂))
-      by true = refl
-      by false = (refl, ap (λ n. arrive next n (setHold (cond glue 1 (a₁ .c .hold)) (a₁ .c))) (add-one i))
+      held : Card
+      held = setHold (cond glue 1 (a₁ .c .hold)) (a₁ .c)
 
-  pub op-agrees : (o : BOp) → BOpFits o → Agrees (checked o i next (opStep (b .memory) flash i next (o .fast) (a .c))) (mrun b flash limit (opSteps o i next) a)
+      by : (u : Bool) → Agrees (cond (not u) (out exits (arrive next (suc i) held)) (on (a₁ .c)))
+          (andThen (cond u (go (withTemp 9 none a₁)) (off exits (arrive next (i + 1) held))) (λ a₂. go a₂))
+      by true = refl
+      by false = (refl, ap (λ n. arrive next n held) (add-one i))
+
+  pub op-agrees : (o : BOp) → BOpFits o
+      → Agrees (checked o i next (opStep (b .memory) flash i next (o .fast) (a .c))) (mrun b flash limit (opSteps o i next) a)
   unfolding opSteps kind
   op-agrees o h =
-      rw (mrun-append b flash limit (lowered (o .fast) i next) (pick (usesBus (o .fast)) (Step.checkBrk (o .glue) next (i + 1) ∷ []) []) a)
-      (by (opStep (b .memory) flash i next (o .fast) (a .c)) (mrun b flash limit (lowered (o .fast) i next) a) (kind-agrees (o .fast) (h .fast)))
+      rw (mrun-append b flash limit (lowered (o .fast) i next) check a)
+      (by (opStep (b .memory) flash i next (o .fast) (a .c)) (mrun b flash limit (lowered (o .fast) i next) a)
+      (kind-agrees (o .fast) (h .fast)))
     where
-      by : (r : After) (t : Then) → Agrees r t → Agrees (checked o i next r) (andThen t (λ a₁. mrun b flash limit (pick (usesBus (o .fast)) (Step.checkBrk (o .glue) next (i + 1) ∷ []) []) a₁))
+      check : List Step
+      check = pick (usesBus (o .fast)) (Step.checkBrk (o .glue) next (i + 1) ∷ []) []
+
+      by : (r : After) (t : Then) → Agrees r t → Agrees (checked o i next r) (andThen t (λ a₁. mrun b flash limit check a₁))
       by (on c) (go a₁) e = check-agrees (o .glue) (usesBus (o .fast)) a₁ c e
       by (on c) (off w d) e = absurd e
       by (on c) void e = absurd e

@@ -1,11 +1,12 @@
 -- The steps of a checked operation have numbers that their code can take.
-use mathlib.Core.Path.{_≡_, refl}
+use mathlib.Core.Path.{refl}
 use mathlib.Core.Bool.{Bool, true, false}
-use mathlib.Core.List.{List, [], _∷_, _++_}
+use mathlib.Core.List.{List, [], _∷_, _++_, reverse}
 use Prim.Native.Nat.{ℕ, suc, _+_, _-_, _%_, _^_, _<_, _≤_}
 use native.Mathlib.Nat.{mod-lt}
 use native.Mathlib.Omega.{arith}
 use lib.Dec.{T, eqb, ltb}
+use lib.ListN.{length}
 use Rattle.block.specs.declared.Op.{Op}
 use Rattle.block.specs.declared.Op.the-variants.{Add, Sub, RSub, And, AndNot, Or, Xor, Mul, Shl, Shr, Sar}
 use Rattle.block.specs.declared.RmwOp.{RmwOp}
@@ -22,18 +23,20 @@ use Rattle.block.specs.declared.UnKind.the-variants.{Not, Neg, Abs, Rev, Clz, S
 use Rattle.block.specs.declared.DivKind.{DivKind}
 use Rattle.block.specs.declared.DivKind.the-variants.{QuoS, QuoU, RemS, RemU}
 use Rattle.block.specs.declared.Fast.{Fast}
-use Rattle.block.specs.declared.Fast.the-variants.{Nop, MovI, Mov, AddRI, ShlI, SarI, Alu3, Alu3I, Alu2, Alu2I, A4, Ext, MinMax, Un, Div, Mov2, Mov2I, BitExt, BitIns, SpAdd, RFromSp, Ld, St, LdIdx, StIdx, LdPost, StPost, Rmw, PushRet, PopRets, BrI, BrR, DecBr, BitBr, Goto, Call, Rts, GotoR, CallR, PopRet}
+use Rattle.block.specs.declared.Fast.the-variants.{Nop, MovI, Mov, AddRI, ShlI, SarI, Alu3, Alu3I, Alu2, Alu2I, A4, Ext, MinMax, Un, Div, Mov2, Mov2I, BitExt, BitIns, SpAdd, RFromSp, Ld, St, LdIdx, StIdx, LdPost, StPost, Rmw, PushRet, PopRets, BrI, BrR, DecBr, BitBr, Goto, Call, Rts, GotoR, CallR, PopRet, BlockMove, PushRets, PopPc, LdPair, StPair}
 use Rattle.block.specs.declared.BOp.{BOp}
-use Rattle.block.specs.declared.Block.{Block}
-use Rattle.block.specs.Block.{usesBus}
+use Rattle.block.specs.Block.{usesBus, members, span, saved, pairOf}
+use Rattle.block.proofs.Groups.{Registers, members-in, members-few, saved-in, pair-in, reverse-in}
 use Rattle.block.specs.Checked.{FastFits, BOpFits, BaseFits}
 use Rattle.code.specs.Items.{pick}
-use Rattle.lowering.specs.Instrs.{sbfx, ubfx}
-use Rattle.lowering.specs.Steps.{Step, lowered, opSteps, alu, ext, rhs, base, un, div, low, ones, hole, sign, rmwValue}
+use Rattle.lowering.specs.Instrs.{KEEP, mov, sbfx, ubfx}
+use Rattle.lowering.specs.Steps.{Step, lowered, opSteps, alu, ext, rhs, base, un, div, low, ones, hole, sign, rmwValue, rets, moveWord}
+use Rattle.lowering.specs.Steps.{moveWords, moveBase, push, pop, pushAll, popAll}
+use Rattle.lowering.proofs.Groups.{offset-lt}
 use Rattle.relation.specs.Relation.{cls}
 use Rattle.relation.specs.Fits.{temp, tempOrZero, onTemps, StepFits, AllFit}
-use Rattle.card.specs.Word.{mask, complement, shl}
-use Rattle.kinds.proofs.Values.{ones-mask, mask-lt, hole-is}
+use Rattle.card.specs.Word.{mask}
+use Rattle.kinds.proofs.Values.{ones-mask, mask-lt}
 
 pub fit-append : (ss ts : List Step) → AllFit ss → AllFit ts → AllFit (ss ++ ts)
 fit-append [] ts h k = k
@@ -122,6 +125,52 @@ ones-lt l = rw (ones-mask l) (mask-lt l)
 hole-lt : (p l : ℕ) → hole (p % 32) (l % 32) < 2 ^ 32
 hole-lt p l = omega arith
 
+-- ---- groups
+moved-base-fits : (post down : Bool) (n r : ℕ) → n ≤ 64 → r < 16 → AllFit (moveBase post down n r)
+unfolding StepFits cls
+moved-base-fits false down n r h l = tt
+moved-base-fits true true n r h l = ((refl, refl, (λ e. omega arith), omega arith), ((refl, l), tt))
+moved-base-fits true false n r h l = ((refl, refl, (λ e. omega arith), omega arith), ((refl, l), tt))
+
+module _ (i : ℕ) (hi : i < 32) where
+  word-fits : (u : Bool) (k r : ℕ) → k ≤ 16 → r < 16 → AllFit (moveWord u i k r)
+  unfolding StepFits cls
+  word-fits true k r h l = ((refl, refl, (λ e. omega arith), omega arith), ((refl, l), (hi, tt)))
+  word-fits false k r h l = ((refl, refl, (λ e. omega arith), omega arith), (hi, ((refl, l), tt)))
+
+  words-fit : (u : Bool) (k : ℕ) (rs : List ℕ) → k + length rs ≤ 16 → Registers rs → AllFit (moveWords u i k rs)
+  unfolding moveWords
+  words-fit u k [] h l = tt
+  words-fit u k (r ∷ rs) h l =
+      fit-append (moveWord u i k r) _ (word-fits u k r (omega arith) (l .0)) (words-fit u (suc k) rs (omega arith) (l .1))
+
+  push-fits : (s : Step) → StepFits s → AllFit (push i s)
+  unfolding StepFits onTemps tempOrZero temp cls
+  push-fits s h = (refl, (tt, (refl, (h, (hi, tt)))))
+
+  pop-fits : (s : Step) → StepFits s → AllFit (pop i s)
+  unfolding StepFits onTemps tempOrZero temp cls
+  pop-fits s h = (refl, (hi, (h, (refl, (tt, (refl, tt))))))
+
+  pushes-fit : (rs : List ℕ) → Registers rs → AllFit (pushAll i rs)
+  unfolding pushAll StepFits cls
+  pushes-fit [] h = tt
+  pushes-fit (r ∷ rs) h =
+      fit-append (push i (Step.ldReg 1 r)) (pushAll i rs) (push-fits (Step.ldReg 1 r) (refl, h .0)) (pushes-fit rs (h .1))
+
+  pops-fit : (rs : List ℕ) → Registers rs → AllFit (popAll i rs)
+  unfolding popAll StepFits cls
+  pops-fit [] h = tt
+  pops-fit (r ∷ rs) h =
+      fit-append (pop i (Step.stReg 0 r)) (popAll i rs) (pop-fits (Step.stReg 0 r) (refl, h .0)) (pops-fit rs (h .1))
+
+  -- the word that is popped to pc
+  pc-fits : AllFit (pop i (Step.ins (mov KEEP 0)) ++ (Step.ind KEEP (i + 1) true ∷ []))
+  unfolding StepFits onTemps tempOrZero temp cls
+  pc-fits =
+      fit-append (pop i (Step.ins (mov KEEP 0))) (Step.ind KEEP (i + 1) true ∷ []) (pop-fits (Step.ins (mov KEEP 0)) tt)
+      ((refl, omega arith), tt)
+
 -- ---- the kinds
 module _ (i next : ℕ) (hi : i < 32) (hn : next < 2 ^ 32) where
   count-lt : i + 1 < 4096
@@ -146,19 +195,25 @@ module _ (i next : ℕ) (hi : i < 32) (hn : next < 2 ^ 32) where
   kind-fits (Div d x y k) h = ((refl, h .1), ((refl, h .2), fit-append (div k) _ (div-fits k) ((refl, h .0), tt)))
   kind-fits (Mov2 dh dl sh sl) h = ((refl, h .2), ((refl, h .3), ((refl, h .0), ((refl, h .1), tt))))
   kind-fits (Mov2I dh dl v) h = ((refl, h .2), ((refl, h .1), ((refl, sign-lt v), ((refl, h .0), tt))))
-  kind-fits (BitExt d s p l signed) h = ((refl, h .1), (tt, fit-append (low (l % 32) signed) _ (low-fits (l % 32) signed) ((refl, h .0), tt)))
-  kind-fits (BitIns d s p l) h = ((refl, h .1), ((refl, h .0), ((refl, ones-lt l), (tt, (tt, ((refl, hole-lt p l), (tt, (tt, ((refl, h .0), tt)))))))))
+  kind-fits (BitExt d s p l signed) h =
+      ((refl, h .1), (tt, fit-append (low (l % 32) signed) _ (low-fits (l % 32) signed) ((refl, h .0), tt)))
+  kind-fits (BitIns d s p l) h =
+      ((refl, h .1), ((refl, h .0), ((refl, ones-lt l), (tt, (tt, ((refl, hole-lt p l), (tt, (tt, ((refl, h .0), tt)))))))))
   kind-fits (SpAdd v) h = (refl, ((refl, refl, (λ e. omega arith), h), (refl, tt)))
   kind-fits (RFromSp d v) h = (refl, ((refl, refl, (λ e. omega arith), h .1), ((refl, h .0), tt)))
   kind-fits (Ld d r o w signed) h = (base-fits r (h .1), ((refl, refl, (λ e. omega arith), h .2), (hi, ((refl, h .0), tt))))
   kind-fits (St s r o w) h = (base-fits r (h .1), ((refl, refl, (λ e. omega arith), h .2), ((refl, h .0), (hi, tt))))
   kind-fits (LdIdx d r x sh w signed) h = ((refl, h .1), ((refl, h .2), (tt, (hi, ((refl, h .0), tt)))))
   kind-fits (StIdx s r x sh w) h = ((refl, h .1), ((refl, h .2), (tt, ((refl, h .0), (hi, tt)))))
-  kind-fits (LdPost d r w signed inc) h = ((refl, h .1), (hi, ((refl, h .0), ((refl, h .1), ((refl, refl, (λ e. omega arith), h .2), ((refl, h .1), tt))))))
-  kind-fits (StPost s r w inc) h = ((refl, h .1), ((refl, h .0), (hi, ((refl, h .1), ((refl, refl, (λ e. omega arith), h .2), ((refl, h .1), tt))))))
-  kind-fits (Rmw r w op o v) h = ((refl, h .0), ((refl, refl, (λ e. omega arith), h .1), fit-append (rmwValue op w v i) _ (rmw-fits op w v i (h .2) hi) (tt, (hi, tt))))
-  kind-fits PushRet h = (refl, (tt, (refl, (refl, (hi, tt)))))
-  kind-fits PopRets h = (refl, (hi, (refl, (refl, (tt, (refl, tt))))))
+  kind-fits (LdPost d r w signed inc) h =
+      ((refl, h .1), (hi, ((refl, h .0), ((refl, h .1), ((refl, refl, (λ e. omega arith), h .2), ((refl, h .1), tt))))))
+  kind-fits (StPost s r w inc) h =
+      ((refl, h .1), ((refl, h .0), (hi, ((refl, h .1), ((refl, refl, (λ e. omega arith), h .2), ((refl, h .1), tt))))))
+  kind-fits (Rmw r w op o v) h =
+      let store : AllFit (Step.ins (mov 0 KEEP) ∷ Step.store w i ∷ []) = (tt, (hi, tt)) in
+      ((refl, h .0), ((refl, refl, (λ e. omega arith), h .1), fit-append (rmwValue op w v i) _ (rmw-fits op w v i (h .2) hi) store))
+  kind-fits PushRet h = push-fits i hi (Step.ldField rets 1) refl
+  kind-fits PopRets h = pop-fits i hi (Step.stField rets 0) refl
   kind-fits (BrI r v q target) h = ((refl, h .0), ((refl, h .1), (tt, ((hn, h .2, count-lt), tt))))
   kind-fits (BrR r s q target) h = ((refl, h .0), ((refl, h .1), (tt, ((hn, h .2, count-lt), tt))))
   kind-fits (DecBr r q v target) h = ((refl, h .0), (tt, ((refl, h .0), ((refl, h .1), (tt, ((hn, h .2, count-lt), tt))))))
@@ -168,7 +223,22 @@ module _ (i next : ℕ) (hi : i < 32) (hn : next < 2 ^ 32) where
   kind-fits Rts h = (refl, ((refl, count-lt), tt))
   kind-fits (GotoR r) h = ((refl, h), ((refl, count-lt), tt))
   kind-fits (CallR r) h = ((refl, hn), (refl, ((refl, h), ((refl, count-lt), tt))))
-  kind-fits PopRet h = (refl, (hi, (tt, (refl, (tt, (refl, ((refl, count-lt), tt)))))))
+  kind-fits PopRet h = pc-fits i hi
+  kind-fits (BlockMove r mask u post down) h = ((refl, h .0), ((refl, refl, (λ e. omega arith), offset-lt down (span mask)), words))
+    where
+      words : AllFit (moveWords u i 0 (members mask) ++ moveBase post down (span mask) r)
+      words =
+          fit-append (moveWords u i 0 (members mask)) _
+          (words-fit i hi u 0 (members mask) (omega (arith, members-few mask)) (members-in mask))
+          (moved-base-fits post down (span mask) r (omega (arith, members-few mask)) (h .0))
+  kind-fits (PushRets n) h =
+      fit-append (push i (Step.ldField rets 1)) (pushAll i (reverse (saved n))) (push-fits i hi (Step.ldField rets 1) refl)
+      (pushes-fit i hi (reverse (saved n)) (reverse-in (saved n) (saved-in n h)))
+  kind-fits (PopPc n) h = fit-append (popAll i (saved n)) _ (pops-fit i hi (saved n) (saved-in n h)) (pc-fits i hi)
+  kind-fits (LdPair p r o) h =
+      (base-fits r (h .1), ((refl, refl, (λ e. omega arith), h .2), words-fit i hi false 0 (pairOf p) (omega arith) (pair-in p)))
+  kind-fits (StPair p r o) h =
+      (base-fits r (h .1), ((refl, refl, (λ e. omega arith), h .2), words-fit i hi true 0 (pairOf p) (omega arith) (pair-in p)))
 
   check-fits : (glue : Bool) → StepFits (Step.checkBrk glue next (i + 1))
   unfolding StepFits

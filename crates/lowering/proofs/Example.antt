@@ -1,4 +1,4 @@
--- Two small blocks, their words and chain sites computed: the listings are what the commit's `compile` gives for them.
+-- Three small blocks, their words and chain sites computed: the listings are what the commit's `compile` gives for them.
 -- Assumes nothing.
 use mathlib.Core.Path.{_≡_, refl}
 use mathlib.Core.Bool.{Bool, true, false}
@@ -6,19 +6,20 @@ use mathlib.Core.List.{List, [], _∷_}
 use Prim.Native.Nat.{ℕ, zero, suc}
 use Rattle.block.specs.declared.Op.the-variants.{Add, Sub, And}
 use Rattle.block.specs.declared.Cond.the-variants.{Ne}
-use Rattle.block.specs.declared.Base.the-variants.{Reg}
+use Rattle.block.specs.declared.Base.the-variants.{Reg, Sp}
 use Rattle.block.specs.declared.Width.the-variants.{Half as B16, Word as B32}
-use Rattle.block.specs.declared.Fast.the-variants.{Nop, Alu3, Mov2, Ld, St, BrI, PopRet}
+use Rattle.block.specs.declared.Fast.the-variants.{Nop, Alu3, Mov2, Ld, St, BrI, PopRet, BlockMove, PushRets, PopPc, LdPair}
 use Rattle.block.specs.declared.BOp.{BOp}
 use Rattle.block.specs.declared.Layout.{Layout}
 use Rattle.block.specs.declared.Memory.{Memory}
 use Rattle.block.specs.declared.Addresses.{Addresses}
 use Rattle.block.specs.declared.Block.{Block}
+use Rattle.block.specs.Block.{places, upFrom}
 use Rattle.code.specs.Items.{index, add, halves, padOf, baseOf}
 use Rattle.code.specs.Tree.{words, lines, instrs, wholeLines, poolIn, findIn, linesWords}
 use Rattle.lowering.specs.Instrs.{mov32}
 use Rattle.lowering.specs.Cache.{position, latest, oldest, chosen, spill, slotFor, seated, ldReg, stReg, stored, flushFrom, flush, reloadFrom, reload}
-use Rattle.lowering.specs.Steps.{lowered, opSteps, opsSteps, blockSteps}
+use Rattle.lowering.specs.Steps.{moveWords, pushAll, popAll, lowered, opSteps, opsSteps, blockSteps}
 use Rattle.lowering.specs.Fragments.{addImm, brkFirst, even, loads, tryRegion, extended, oddTest, mapTest, stores, call, exitImm, chain, ind, hold, checkBrk, fork, limit, load, store, stepCode, stepCache, stepsCode, opening, closing}
 use Rattle.lowering.specs.Compile.{blockWords, blockLines, blockCode, sites, starts}
 
@@ -129,3 +130,69 @@ second-words = refl
 pub second-sites : sites second ≡ record { at = 121; target = 0x0200020e } ∷ record { at = 133; target = 0x02000200 } ∷ []
 unfolding blockWords blockLines blockCode sites starts addImm brkFirst even loads tryRegion extended oddTest mapTest stores call exitImm chain ind hold checkBrk fork limit load store stepCode stepCache stepsCode opening closing position latest oldest chosen spill slotFor seated ldReg stReg stored flushFrom flush reloadFrom reload mov32 lowered opSteps opsSteps blockSteps index add halves padOf baseOf words lines instrs wholeLines poolIn findIn linesWords
 second-sites = refl
+
+-- Groups: two registers stored below a base that is one of them and is written back; rets and two registers pushed; pair 9 loaded from sp,
+-- with a glued break check; a register and the target popped, the end by the jump table. Behind an odd length a nop.
+abbrev third : Block
+third =
+    record {
+      layout = layout;
+      memory = record { «ram_base» = 0x20000000; «ram_len» = 64; «xip_base» = 0x02000000; «xip_len» = 16; map = false };
+      addresses = addresses;
+      pc0 = 0x02000300;
+      ops =
+          padded 32
+          (record { fast = BlockMove 4 0x0012 true true true; len = 2; glue = false }
+          ∷ record { fast = PushRets 2; len = 2; glue = false }
+          ∷ record { fast = LdPair 9 Sp 8; len = 2; glue = true }
+          ∷ record { fast = PopPc 4; len = 2; glue = false }
+          ∷ []);
+      n = 4;
+    }
+
+pub third-words : blockWords third ≡
+    0xa9ba7bfd ∷ 0xa90153f3 ∷ 0xa9025bf5 ∷ 0xa90363f7 ∷ 0xa9046bf9 ∷ 0xa90573fb ∷ 0xaa0003f3 ∷ 0xaa0103f4
+    ∷ 0xaa0203f5 ∷ 0xaa0303f6 ∷ 0x2a0403fb ∷ 0xaa0503f9 ∷ 0x5280001a ∷ 0x11001349 ∷ 0x6b1b013f ∷ 0x540000c9
+    ∷ 0x52806009 ∷ 0x72a04009 ∷ 0xb9004a69 ∷ 0x11000340 ∷ 0x14000116 ∷ 0xb9401265 ∷ 0x2a0503e0 ∷ 0x51002017
+    ∷ 0x2a1703e0 ∷ 0xb9400666 ∷ 0x2a0603e1 ∷ 0x52a40002 ∷ 0x4b020003 ∷ 0x52800782 ∷ 0x6b02007f ∷ 0x54000068
+    ∷ 0xb8234aa1 ∷ 0x1400000a ∷ 0x2a0103e2 ∷ 0x2a0003e1 ∷ 0xaa1403e0 ∷ 0x11000343 ∷ 0x52800084 ∷ 0x58002169
+    ∷ 0xd63f0120 ∷ 0xb9401265 ∷ 0xb9400666 ∷ 0x110012e0 ∷ 0x2a0503e1 ∷ 0x52a40002 ∷ 0x4b020003 ∷ 0x52800782
+    ∷ 0x6b02007f ∷ 0x54000068 ∷ 0xb8234aa1 ∷ 0x1400000a ∷ 0x2a0103e2 ∷ 0x2a0003e1 ∷ 0xaa1403e0 ∷ 0x11000343
+    ∷ 0x52800084 ∷ 0x58001f29 ∷ 0xd63f0120 ∷ 0xb9401265 ∷ 0xb9400666 ∷ 0x2a1703e0 ∷ 0x2a0003e5 ∷ 0xb9401a89
+    ∷ 0x340000e9 ∷ 0xb9001265 ∷ 0x52806049 ∷ 0x72a04009 ∷ 0xb9004a69 ∷ 0x11000740 ∷ 0x140000e4 ∷ 0xb9404260
+    ∷ 0x51001000 ∷ 0xb9004260 ∷ 0xb9404661 ∷ 0x52a40002 ∷ 0x4b020003 ∷ 0x52800782 ∷ 0x6b02007f ∷ 0x54000068
+    ∷ 0xb8234aa1 ∷ 0x1400000b ∷ 0x2a0103e2 ∷ 0x2a0003e1 ∷ 0xaa1403e0 ∷ 0x11000743 ∷ 0x52800084 ∷ 0xb9001265
+    ∷ 0x58001b49 ∷ 0xd63f0120 ∷ 0xb9401265 ∷ 0xb9400666 ∷ 0xb9404260 ∷ 0x51001000 ∷ 0xb9004260 ∷ 0xb9400e67
+    ∷ 0x2a0703e1 ∷ 0x52a40002 ∷ 0x4b020003 ∷ 0x52800782 ∷ 0x6b02007f ∷ 0x54000068 ∷ 0xb8234aa1 ∷ 0x1400000c
+    ∷ 0x2a0103e2 ∷ 0x2a0003e1 ∷ 0xaa1403e0 ∷ 0x11000743 ∷ 0x52800084 ∷ 0xb9001265 ∷ 0x58001889 ∷ 0xd63f0120
+    ∷ 0xb9401265 ∷ 0xb9400666 ∷ 0xb9400e67 ∷ 0xb9404260 ∷ 0x51001000 ∷ 0xb9004260 ∷ 0xb9400a68 ∷ 0x2a0803e1
+    ∷ 0x52a40002 ∷ 0x4b020003 ∷ 0x52800782 ∷ 0x6b02007f ∷ 0x54000068 ∷ 0xb8234aa1 ∷ 0x1400000d ∷ 0x2a0103e2
+    ∷ 0x2a0003e1 ∷ 0xaa1403e0 ∷ 0x11000743 ∷ 0x52800084 ∷ 0xb9001265 ∷ 0x580015a9 ∷ 0xd63f0120 ∷ 0xb9401265
+    ∷ 0xb9400666 ∷ 0xb9400e67 ∷ 0xb9400a68 ∷ 0xb9401a89 ∷ 0x340000e9 ∷ 0xb9001265 ∷ 0x52806089 ∷ 0x72a04009
+    ∷ 0xb9004a69 ∷ 0x11000b40 ∷ 0x14000098 ∷ 0xb9404260 ∷ 0x11002017 ∷ 0x2a1703e0 ∷ 0x52a40002 ∷ 0x4b020003
+    ∷ 0x52800782 ∷ 0x6b02007f ∷ 0x54000068 ∷ 0xb8634aa0 ∷ 0x14000013 ∷ 0x52a04002 ∷ 0x4b020003 ∷ 0x52800182
+    ∷ 0x6b02007f ∷ 0x54000068 ∷ 0xb8634ac0 ∷ 0x1400000c ∷ 0x2a0003e1 ∷ 0xaa1403e0 ∷ 0x11000b42 ∷ 0x52800083
+    ∷ 0xb9001265 ∷ 0x58001169 ∷ 0xd63f0120 ∷ 0xb9401265 ∷ 0xb9400666 ∷ 0xb9400e67 ∷ 0xb9400a68 ∷ 0x2a0003e8
+    ∷ 0x110012e0 ∷ 0x52a40002 ∷ 0x4b020003 ∷ 0x52800782 ∷ 0x6b02007f ∷ 0x54000068 ∷ 0xb8634aa0 ∷ 0x14000014
+    ∷ 0x52a04002 ∷ 0x4b020003 ∷ 0x52800182 ∷ 0x6b02007f ∷ 0x54000068 ∷ 0xb8634ac0 ∷ 0x1400000d ∷ 0x2a0003e1
+    ∷ 0xaa1403e0 ∷ 0x11000b42 ∷ 0x52800083 ∷ 0xb9001265 ∷ 0xb9000a68 ∷ 0x58000de9 ∷ 0xd63f0120 ∷ 0xb9401265
+    ∷ 0xb9400666 ∷ 0xb9400e67 ∷ 0xb9400a68 ∷ 0x2a0003e7 ∷ 0xb9401a89 ∷ 0x34000169 ∷ 0x52800029 ∷ 0xb9004e69
+    ∷ 0xb9001265 ∷ 0xb9000e67 ∷ 0xb9000a68 ∷ 0x528060c9 ∷ 0x72a04009 ∷ 0xb9004a69 ∷ 0x11000f40 ∷ 0x14000053
+    ∷ 0xb9404260 ∷ 0x52a40002 ∷ 0x4b020003 ∷ 0x52800782 ∷ 0x6b02007f ∷ 0x54000068 ∷ 0xb8634aa0 ∷ 0x14000015
+    ∷ 0x52a04002 ∷ 0x4b020003 ∷ 0x52800182 ∷ 0x6b02007f ∷ 0x54000068 ∷ 0xb8634ac0 ∷ 0x1400000e ∷ 0x2a0003e1
+    ∷ 0xaa1403e0 ∷ 0x11000f42 ∷ 0x52800083 ∷ 0xb9001265 ∷ 0xb9000e67 ∷ 0xb9000a68 ∷ 0x580008c9 ∷ 0xd63f0120
+    ∷ 0xb9401265 ∷ 0xb9400666 ∷ 0xb9400e67 ∷ 0xb9400a68 ∷ 0x2a0003e5 ∷ 0xb9404260 ∷ 0x11001000 ∷ 0xb9004260
+    ∷ 0xb9404260 ∷ 0x52a40002 ∷ 0x4b020003 ∷ 0x52800782 ∷ 0x6b02007f ∷ 0x54000068 ∷ 0xb8634aa0 ∷ 0x14000015
+    ∷ 0x52a04002 ∷ 0x4b020003 ∷ 0x52800182 ∷ 0x6b02007f ∷ 0x54000068 ∷ 0xb8634ac0 ∷ 0x1400000e ∷ 0x2a0003e1
+    ∷ 0xaa1403e0 ∷ 0x11000f42 ∷ 0x52800083 ∷ 0xb9001265 ∷ 0xb9000e67 ∷ 0xb9000a68 ∷ 0x580004c9 ∷ 0xd63f0120
+    ∷ 0xb9401265 ∷ 0xb9400666 ∷ 0xb9400e67 ∷ 0xb9400a68 ∷ 0x2a0003f7 ∷ 0xb9404260 ∷ 0x11001000 ∷ 0xb9004260
+    ∷ 0xb9001265 ∷ 0xb9000e67 ∷ 0xb9000a68 ∷ 0x2a1703ec ∷ 0x1100135a ∷ 0xb9401a89 ∷ 0x35000129 ∷ 0x5301398a
+    ∷ 0x580002cb ∷ 0x8b0a116b ∷ 0xb940016d ∷ 0x6b0c01bf ∷ 0x54000061 ∷ 0xf9400569 ∷ 0xd61f0120 ∷ 0xb9004a6c
+    ∷ 0x2a1a03e0 ∷ 0x14000001 ∷ 0xa94573fb ∷ 0xa9446bf9 ∷ 0xa94363f7 ∷ 0xa9425bf5 ∷ 0xa94153f3 ∷ 0xa8c67bfd
+    ∷ 0xd65f03c0 ∷ 0xd503201f ∷ 0x77778888 ∷ 0x55556666 ∷ 0x33334444 ∷ 0x11112222 ∷ 0xbbbbcccc ∷ 0x9999aaaa ∷ []
+unfolding blockWords blockLines blockCode sites starts addImm brkFirst even loads tryRegion extended oddTest mapTest stores call exitImm chain ind hold checkBrk fork limit load store stepCode stepCache stepsCode opening closing position latest oldest chosen spill slotFor seated ldReg stReg stored flushFrom flush reloadFrom reload mov32 places upFrom moveWords pushAll popAll lowered opSteps opsSteps blockSteps index add halves padOf baseOf words lines instrs wholeLines poolIn findIn linesWords
+third-words = refl
+
+pub third-sites : sites third ≡ []
+unfolding blockWords blockLines blockCode sites starts addImm brkFirst even loads tryRegion extended oddTest mapTest stores call exitImm chain ind hold checkBrk fork limit load store stepCode stepCache stepsCode opening closing position latest oldest chosen spill slotFor seated ldReg stReg stored flushFrom flush reloadFrom reload mov32 places upFrom moveWords pushAll popAll lowered opSteps opsSteps blockSteps index add halves padOf baseOf words lines instrs wholeLines poolIn findIn linesWords
+third-sites = refl

@@ -1,4 +1,5 @@
 pub mod Example
+pub mod Groups
 pub mod Lookups
 pub mod Latest
 pub mod Recency

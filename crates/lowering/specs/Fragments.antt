@@ -22,6 +22,7 @@ use Rattle.lowering.specs.declared.RegCache.{RegCache}
 use Rattle.lowering.specs.Instrs.{CPU, CTX, RAM, XIP, KEEP, KEEP2, FLAGS, DONE, LIMIT, SP, NE, HI, LS, mov, movX, movz, mov32, addI, subI, add, addXLsl, sub, cmp, and, ubfx, sbfx, lsrI, ldr, str, ldrX, strX, indexed, frame, blr, br, ret}
 use Rattle.lowering.specs.Cache.{ldReg, stReg, seated, stored, flush, reload}
 use Rattle.lowering.specs.Steps.{Field, sp, rets, Step}
+pub use Rattle.lowering.specs.Steps.{minus}
 
 -- bytes of the context
 abbrev pub OFF-BRK : ℕ
@@ -33,10 +34,6 @@ OFF-SLOT = 32
 abbrev pub fieldAt : Layout → Field → ℕ
 fieldAt lay sp = lay .sp
 fieldAt lay rets = lay .rets
-
--- minus v, in 32 bits
-abbrev pub minus : ℕ → ℕ
-minus v = (2 ^ 32 - v) % 2 ^ 32
 
 -- w(d) = w(s) + v, any 32 bits
 unfoldable pub addImm : (d s v : ℕ) → List Instr

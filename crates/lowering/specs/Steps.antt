@@ -1,6 +1,6 @@
 -- An operation as a list of steps, each a call that the Rust's `emit_op` makes on `Gen`. A line a kind, to be held beside the Rust.
 use mathlib.Core.Bool.{Bool, true, false}
-use mathlib.Core.List.{List, [], _∷_, _++_}
+use mathlib.Core.List.{List, [], _∷_, _++_, reverse}
 use Prim.Native.Nat.{ℕ, suc, _+_, _-_, _*_, _%_, _^_}
 use lib.Dec.{eqb, ltb}
 use lib.ListN.{length}
@@ -26,10 +26,10 @@ use Rattle.block.specs.declared.UnKind.the-variants.{Not, Neg, Abs, Rev, Clz, S
 use Rattle.block.specs.declared.DivKind.{DivKind}
 use Rattle.block.specs.declared.DivKind.the-variants.{QuoS, QuoU, RemS, RemU}
 use Rattle.block.specs.declared.Fast.{Fast}
-use Rattle.block.specs.declared.Fast.the-variants.{Nop, MovI, Mov, AddRI, ShlI, SarI, Alu3, Alu3I, Alu2, Alu2I, A4, Ext, MinMax, Un, Div, Mov2, Mov2I, BitExt, BitIns, SpAdd, RFromSp, Ld, St, LdIdx, StIdx, LdPost, StPost, Rmw, PushRet, PopRets, BrI, BrR, DecBr, BitBr, Goto, Call, Rts, GotoR, CallR, PopRet}
+use Rattle.block.specs.declared.Fast.the-variants.{Nop, MovI, Mov, AddRI, ShlI, SarI, Alu3, Alu3I, Alu2, Alu2I, A4, Ext, MinMax, Un, Div, Mov2, Mov2I, BitExt, BitIns, SpAdd, RFromSp, Ld, St, LdIdx, StIdx, LdPost, StPost, Rmw, PushRet, PopRets, BrI, BrR, DecBr, BitBr, Goto, Call, Rts, GotoR, CallR, PopRet, BlockMove, PushRets, PopPc, LdPair, StPair}
 use Rattle.block.specs.declared.BOp.{BOp}
 use Rattle.block.specs.declared.Block.{Block}
-use Rattle.block.specs.Block.{opsOf, mayJump, usesBus}
+use Rattle.block.specs.Block.{opsOf, mayJump, usesBus, members, span, saved, pairOf}
 use Rattle.code.specs.Items.{pick}
 use Rattle.lowering.specs.Instrs.{KEEP, ZR, EQ, NE, HS, LO, HI, LS, GE, LT, GT, LE, mov, movz, addI, subI, cmpI, add, addLsl, sub, cmp, neg, and, bic, orr, eor, mvn, tst, rev, clz, sdiv, udiv, lslv, lsrv, asrv, mul, msub, csel, cnegLt, ubfx, sbfx, lslI, lsrI, asrI}
 
@@ -153,6 +153,48 @@ rmwValue RmwAdd w v i = changed (add 1 0 2) w v i
 rmwValue RmwSub w v i = changed (sub 1 0 2) w v i
 rmwValue RmwMov w v i = mov32 1 v ∷ []
 
+-- ---- groups
+-- minus v, in 32 bits
+abbrev pub minus : ℕ → ℕ
+minus v = (2 ^ 32 - v) % 2 ^ 32
+
+-- register r is the k-th word from KEEP on
+abbrev pub moveWord : (store : Bool) → (i k r : ℕ) → List Step
+moveWord true i k r = addImm 0 KEEP (4 * k) ∷ ldReg 1 r ∷ store B32 i ∷ []
+moveWord false i k r = addImm 0 KEEP (4 * k) ∷ load B32 false i ∷ stReg 0 r ∷ []
+
+-- these registers, in ascending words
+unfoldable pub moveWords : (store : Bool) → (i k : ℕ) → List ℕ → List Step
+moveWords u i k [] = []
+moveWords u i k (r ∷ rs) = moveWord u i k r ++ moveWords u i (suc k) rs
+
+-- the base behind: at the start where it went down, else behind the last word
+abbrev pub moveBase : (post down : Bool) → (bytes base : ℕ) → List Step
+moveBase false down n r = []
+moveBase true true n r = addImm 0 KEEP 0 ∷ stReg 0 r ∷ []
+moveBase true false n r = addImm 0 KEEP n ∷ stReg 0 r ∷ []
+
+-- where the words start, from the base on
+abbrev pub moveOffset : (down : Bool) → (bytes : ℕ) → ℕ
+moveOffset true n = minus n
+moveOffset false n = 0
+
+-- w1, as a step sets it, to the stack
+abbrev pub push : (i : ℕ) → Step → List Step
+push i s = ldField sp 0 ∷ ins (subI 0 0 4) ∷ stField sp 0 ∷ s ∷ store B32 i ∷ []
+
+-- the top of the stack to w0 and where a step puts it
+abbrev pub pop : (i : ℕ) → Step → List Step
+pop i s = ldField sp 0 ∷ load B32 false i ∷ s ∷ ldField sp 0 ∷ ins (addI 0 0 4) ∷ stField sp 0 ∷ []
+
+unfoldable pub pushAll : (i : ℕ) → List ℕ → List Step
+pushAll i [] = []
+pushAll i (r ∷ rs) = push i (ldReg 1 r) ++ pushAll i rs
+
+unfoldable pub popAll : (i : ℕ) → List ℕ → List Step
+popAll i [] = []
+popAll i (r ∷ rs) = pop i (stReg 0 r) ++ popAll i rs
+
 -- ---- emit_op: the operation at position i, `next` the guest address behind it
 unfoldable pub lowered : Fast → (i next : ℕ) → List Step
 lowered Nop i next = []
@@ -185,8 +227,8 @@ lowered (StIdx s b x sh w) i next = ldReg 0 b ∷ ldReg 1 x ∷ ins (addLsl 0 0 
 lowered (LdPost d b w signed inc) i next = ldReg 0 b ∷ load w signed i ∷ stReg 0 d ∷ ldReg 0 b ∷ addImm 0 0 inc ∷ stReg 0 b ∷ []
 lowered (StPost s b w inc) i next = ldReg 0 b ∷ ldReg 1 s ∷ store w i ∷ ldReg 0 b ∷ addImm 0 0 inc ∷ stReg 0 b ∷ []
 lowered (Rmw b w op off v) i next = ldReg 0 b ∷ addImm KEEP 0 off ∷ (rmwValue op w v i ++ (ins (mov 0 KEEP) ∷ store w i ∷ []))
-lowered PushRet i next = ldField sp 0 ∷ ins (subI 0 0 4) ∷ stField sp 0 ∷ ldField rets 1 ∷ store B32 i ∷ []
-lowered PopRets i next = ldField sp 0 ∷ load B32 false i ∷ stField rets 0 ∷ ldField sp 0 ∷ ins (addI 0 0 4) ∷ stField sp 0 ∷ []
+lowered PushRet i next = push i (ldField rets 1)
+lowered PopRets i next = pop i (stField rets 0)
 lowered (BrI a v cond target) i next = ldReg 0 a ∷ mov32 1 v ∷ ins (cmp 0 1) ∷ fork (acond cond) next target (i + 1) ∷ []
 lowered (BrR a b cond target) i next = ldReg 0 a ∷ ldReg 1 b ∷ ins (cmp 0 1) ∷ fork (acond cond) next target (i + 1) ∷ []
 lowered (DecBr r cond v target) i next =
@@ -197,8 +239,14 @@ lowered (Call target) i next = mov32 0 next ∷ stField rets 0 ∷ chain target 
 lowered Rts i next = ldField rets 9 ∷ ind 9 (i + 1) false ∷ []
 lowered (GotoR r) i next = ldReg 9 r ∷ ind 9 (i + 1) false ∷ []
 lowered (CallR r) i next = mov32 0 next ∷ stField rets 0 ∷ ldReg 9 r ∷ ind 9 (i + 1) false ∷ []
-lowered PopRet i next =
-    ldField sp 0 ∷ load B32 false i ∷ ins (mov KEEP 0) ∷ ldField sp 0 ∷ ins (addI 0 0 4) ∷ stField sp 0 ∷ ind KEEP (i + 1) true ∷ []
+lowered PopRet i next = pop i (ins (mov KEEP 0)) ++ (ind KEEP (i + 1) true ∷ [])
+lowered (BlockMove r mask u post down) i next =
+    ldReg 0 r ∷ addImm KEEP 0 (moveOffset down (span mask)) ∷ (moveWords u i 0 (members mask) ++ moveBase post down (span mask) r)
+lowered (PushRets n) i next = push i (ldField rets 1) ++ pushAll i (reverse (saved n))
+lowered (PopPc n) i next = popAll i (saved n) ++ (pop i (ins (mov KEEP 0)) ++ (ind KEEP (i + 1) true ∷ []))
+-- a pair is a group of two: `mov` of KEEP is `add_imm` of 0
+lowered (LdPair p b o) i next = base b ∷ addImm KEEP 0 o ∷ moveWords false i 0 (pairOf p)
+lowered (StPair p b o) i next = base b ∷ addImm KEEP 0 o ∷ moveWords true i 0 (pairOf p)
 
 -- ---- emit_ops
 -- guest sums wrap

@@ -7,8 +7,10 @@ use native.Mathlib.Omega.{arith}
 use borrow.Author.Tests.{leb-true, ltb-true}
 use lib.Dec.{ltb}
 use lib.ListN.{getD}
+use Rattle.block.specs.declared.Fast.{Fast}
 use Rattle.block.specs.Checked.{BaseFits, FastFits}
-use Rattle.operands.specs.Kinds.{Class, reg, base, any32, byte, flag, width, aluOp, rmwOp, cond, fits, pickBase, baseOf, Kind, kind, kinds, kindAt, fastOf}
+use Rattle.operands.specs.Kinds.{Class, reg, base, any32, byte, flag, width, aluOp, rmwOp, cond, mask, nib, fits}
+use Rattle.operands.specs.Kinds.{pickBase, baseOf, Kind, kind, kinds, kindAt, fastOf}
 use Rattle.operands.specs.Operation.{operand, operands, operandsFit}
 use Rattle.operands.proofs.Laws.{and-true-both}
 
@@ -23,6 +25,8 @@ InRange width x = Unit {0}
 InRange aluOp x = Unit {0}
 InRange rmwOp x = Unit {0}
 InRange cond x = Unit {0}
+InRange mask x = x ≤ 65535
+InRange nib x = x ≤ 15
 
 in-range : (c : Class) (x : ℕ) → x < 4294967296 → fits c x ≡ true → InRange c x
 in-range reg x h e = leb-true x 15 e
@@ -34,15 +38,18 @@ in-range width x h e = tt
 in-range aluOp x h e = tt
 in-range rmwOp x h e = tt
 in-range cond x h e = tt
+in-range mask x h e = leb-true x 65535 e
+in-range nib x h e = leb-true x 15 e
 
 abbrev AllInRange : List Class → List ℕ → ℕ → Type 0
 AllInRange [] p i = Unit {0}
 AllInRange (c ∷ cs) p i = InRange c (operand p i) × AllInRange cs p (suc i)
 
-all-in-range : (cs : List Class) (p : List ℕ) (i : ℕ) → ((j : ℕ) → operand p j < 4294967296) → operandsFit cs p i ≡ true → AllInRange cs p i
+all-in-range : (cs : List Class) (p : List ℕ) (i : ℕ) → ((j : ℕ) → operand p j < 4294967296) → operandsFit cs p i ≡ true
+    → AllInRange cs p i
 all-in-range [] p i h e = tt
 all-in-range (c ∷ cs) p i h e =
-    let b : (fits c (operand p i) ≡ true) × (operandsFit cs p (suc i) ≡ true) = and-true-both (fits c (operand p i)) (operandsFit cs p (suc i)) e in
+    let b = and-true-both (fits c (operand p i)) (operandsFit cs p (suc i)) e in
     (in-range c (operand p i) (h i) (b .0), all-in-range cs p (suc i) h (b .1))
 
 base-fits : (x : ℕ) → x ≤ 16 → BaseFits (baseOf x)
@@ -56,9 +63,13 @@ infixr 20 _and_
 _and_ : {A B : Type 0} → A → B → A × B
 a and b = (a, b)
 
+-- what a row makes of a payload's operands
+abbrev made : Kind → List ℕ → Fast
+made r p = r .fast (λ i. getD (operands p) i 0)
+
 abbrev Fitting : List Kind → Type 0
 Fitting [] = Unit {0}
-Fitting (r ∷ rs) = ((p : List ℕ) → AllInRange (r .operands) p 0 → FastFits (r .fast (λ i. getD (operands p) i 0))) × Fitting rs
+Fitting (r ∷ rs) = ((p : List ℕ) → AllInRange (r .operands) p 0 → FastFits (made r p)) × Fitting rs
 
 fitting : Fitting kinds
 fitting =
@@ -102,13 +113,19 @@ fitting =
     and (λ p f. omega arith)
     and (λ p f. omega arith)
     and (λ p f. tt)
+    and (λ p f. (omega arith, omega arith))
+    and (λ p f. omega arith)
+    and (λ p f. omega arith)
+    and (λ p f. (omega arith, base-fits _ (f .1 .0), omega arith))
+    and (λ p f. (omega arith, base-fits _ (f .1 .0), omega arith))
     and tt
 
-fitting-at : (rs : List Kind) (d : Kind) → Fitting rs → ((p : List ℕ) → FastFits (d .fast (λ i. getD (operands p) i 0))) → (k : ℕ) (p : List ℕ)
-    → AllInRange (getD rs k d .operands) p 0 → FastFits (getD rs k d .fast (λ i. getD (operands p) i 0))
+fitting-at : (rs : List Kind) (d : Kind) → Fitting rs → ((p : List ℕ) → FastFits (made d p))
+    → (k : ℕ) (p : List ℕ) → AllInRange (getD rs k d .operands) p 0 → FastFits (made (getD rs k d) p)
 fitting-at [] d f z k p a = z p
 fitting-at (r ∷ rs) d f z zero p a = f .0 p a
 fitting-at (r ∷ rs) d f z (suc k) p a = fitting-at rs d (f .1) z k p a
 
-pub fast-fits : (k : ℕ) (p : List ℕ) → ((j : ℕ) → operand p j < 4294967296) → operandsFit (kindAt k .operands) p 0 ≡ true → FastFits (fastOf k (operands p))
+pub fast-fits : (k : ℕ) (p : List ℕ) → ((j : ℕ) → operand p j < 4294967296) → operandsFit (kindAt k .operands) p 0 ≡ true
+    → FastFits (fastOf k (operands p))
 fast-fits k p h e = fitting-at kinds (kind [] (λ x. _)) fitting (λ q. tt) k p (all-in-range (kindAt k .operands) p 0 h e)

@@ -1,12 +1,15 @@
 -- The table of kinds: rules of all of its rows.
-use mathlib.Core.Path.{_≡_, refl, ap₂}
+use mathlib.Core.Path.{_≡_, refl, sym, ap₂}
 use mathlib.Core.Bool.{Bool, true, false, _&&_}
 use mathlib.Core.List.{List, [], _∷_}
 use Prim.Native.Nat.{ℕ, zero, suc, _+_, _<_, _≤_}
 use native.Mathlib.Omega.{arith}
-use lib.Dec.{T, leb, leb→le}
-use lib.ListN.{length, getD}
-use Rattle.operands.specs.Kinds.{Class, fits, Kind, kinds, kindAt}
+use lib.Dec.{T, leb, eqb, leb→le, eqb→eq}
+use lib.ListN.{length, getD, take}
+use lib.Seq.{getD-take}
+use Rattle.block.specs.declared.Fast.the-variants.{Nop}
+use Rattle.block.specs.Block.{moved}
+use Rattle.operands.specs.Kinds.{Class, fits, Kind, kind, kinds, kindAt, fastOf}
 use Rattle.operands.specs.Rows.{fitFrom}
 use Rattle.operands.specs.Operation.{operand, operands, operandsFit}
 
@@ -49,3 +52,15 @@ fit-from (c ∷ cs) p i h = ap₂ (λ (x : ℕ) (b : Bool). fits c x && b) (oper
 
 pub fit-all : (k : ℕ) (p : List ℕ) → fitFrom (kindAt k .operands) (operands p) 0 ≡ operandsFit (kindAt k .operands) p 0
 fit-all k p = fit-from (kindAt k .operands) p 0 (omega (arith, at-most-six k))
+
+-- ---- kinds 0 to 39 are no groups
+
+still : (ℕ → ℕ) → Kind → Bool
+still x k = eqb (moved (k .fast x)) 0
+
+pub none-moved : (k : ℕ) (xs : List ℕ) → k < 40 → 0 ≡ moved (fastOf k xs)
+unfolding still
+none-moved k xs h =
+    let d : Kind = kind [] (λ x. Nop) in
+    let t = row (still (λ i. getD xs i 0)) (take 40 kinds) d tt tt k in
+    sym (eqb→eq _ 0 (rw (getD-take 40 kinds k d h) at t))

@@ -1,5 +1,5 @@
--- The kinds of operations, as document 01's list of kinds has them: the operands of each in order, and what it is made of them.
--- A later kind is a row.
+-- The kinds of operations, as document 01's list of kinds has them, and behind it those of document 02: the operands of each in order, and
+-- what it is made of them. A later kind is a row.
 use mathlib.Core.Bool.{Bool, true, false, not, _||_}
 use mathlib.Core.List.{List, [], _∷_}
 use Prim.Native.Nat.{ℕ, _%_}
@@ -26,14 +26,15 @@ use Rattle.block.specs.declared.UnKind.the-variants.{Not, Neg, Abs, Rev, Clz, S
 use Rattle.block.specs.declared.DivKind.{DivKind}
 use Rattle.block.specs.declared.DivKind.the-variants.{QuoS, QuoU, RemS, RemU}
 use Rattle.block.specs.declared.Fast.{Fast}
-use Rattle.block.specs.declared.Fast.the-variants.{Nop, MovI, Mov, AddRI, ShlI, SarI, Alu3, Alu3I, Alu2, Alu2I, A4, Ext, MinMax, Un, Div, Mov2, Mov2I, BitExt, BitIns, SpAdd, RFromSp, Ld, St, LdIdx, StIdx, LdPost, StPost, Rmw, PushRet, PopRets, BrI, BrR, DecBr, BitBr, Goto, Call, Rts, GotoR, CallR, PopRet}
+use Rattle.block.specs.declared.Fast.the-variants.{Nop, MovI, Mov, AddRI, ShlI, SarI, Alu3, Alu3I, Alu2, Alu2I, A4, Ext, MinMax, Un, Div, Mov2, Mov2I, BitExt, BitIns, SpAdd, RFromSp, Ld, St, LdIdx, StIdx, LdPost, StPost, Rmw, PushRet, PopRets, BrI, BrR, DecBr, BitBr, Goto, Call, Rts, GotoR, CallR, PopRet, BlockMove, PushRets, PopPc, LdPair, StPair}
 
 -- what an operand may be
 pub data Class : Type 0 where
-  reg base any32 byte flag width aluOp rmwOp cond : Class
+  reg base any32 byte flag width aluOp rmwOp cond mask nib : Class
 
 -- "Registers are 0 to 15; in kinds 21 and 22, b may be 16 for sp. w is 1, 2 or 4. signed and ne are 0 or 1. op is 0 to 10 ..; in
--- Rmw 0 to 5 .. cond is 0 to 9 .. n, p, l, sh, part, kind, k, rk, mk are 0 to 255. v, off, inc, rv, mv, target are any 32 bits."
+-- Rmw 0 to 5 .. cond is 0 to 9 .. n, p, l, sh, part, kind, k, rk, mk are 0 to 255. v, off, inc, rv, mv, target are any 32 bits." Of the
+-- groups: "The mask is 16 bits .. n is 0 to 15, p is 0 to 255 .., the three flags are 0 or 1, and b may be 16 in the pairs."
 abbrev pub fits : Class → ℕ → Bool
 fits reg x = leb x 15
 fits base x = leb x 16
@@ -44,11 +45,16 @@ fits width x = eqb x 1 || (eqb x 2 || eqb x 4)
 fits aluOp x = leb x 10
 fits rmwOp x = leb x 5
 fits cond x = leb x 9
+fits mask x = leb x 65535
+fits nib x = leb x 15
 
--- ---- numbers to operands: an operand of one byte, a flag, and the selectors, of which a number above the cases is the last
+-- ---- numbers to operands: an operand of one byte, a mask, a flag, and the selectors, of which a number above the cases is the last
 
 abbrev pub low : ℕ → ℕ
 low x = x % 256
+
+abbrev pub low16 : ℕ → ℕ
+low16 x = x % 65536
 
 abbrev pub flagOf : ℕ → Bool
 flagOf x = not (eqb x 0)
@@ -149,7 +155,8 @@ kinds =
     ∷ kind (reg ∷ any32 ∷ []) (λ x. RFromSp (low (x 0)) (x 1))
     ∷ kind (reg ∷ base ∷ any32 ∷ width ∷ flag ∷ []) (λ x. Ld (low (x 0)) (baseOf (x 1)) (x 2) (widthOf (x 3)) (flagOf (x 4)))
     ∷ kind (reg ∷ base ∷ any32 ∷ width ∷ []) (λ x. St (low (x 0)) (baseOf (x 1)) (x 2) (widthOf (x 3)))
-    ∷ kind (reg ∷ reg ∷ reg ∷ byte ∷ width ∷ flag ∷ []) (λ x. LdIdx (low (x 0)) (low (x 1)) (low (x 2)) (low (x 3)) (widthOf (x 4)) (flagOf (x 5)))
+    ∷ kind (reg ∷ reg ∷ reg ∷ byte ∷ width ∷ flag ∷ [])
+    (λ x. LdIdx (low (x 0)) (low (x 1)) (low (x 2)) (low (x 3)) (widthOf (x 4)) (flagOf (x 5)))
     ∷ kind (reg ∷ reg ∷ reg ∷ byte ∷ width ∷ []) (λ x. StIdx (low (x 0)) (low (x 1)) (low (x 2)) (low (x 3)) (widthOf (x 4)))
     ∷ kind (reg ∷ reg ∷ width ∷ flag ∷ any32 ∷ []) (λ x. LdPost (low (x 0)) (low (x 1)) (widthOf (x 2)) (flagOf (x 3)) (x 4))
     ∷ kind (reg ∷ reg ∷ width ∷ any32 ∷ []) (λ x. StPost (low (x 0)) (low (x 1)) (widthOf (x 2)) (x 3))
@@ -166,6 +173,11 @@ kinds =
     ∷ kind (reg ∷ []) (λ x. GotoR (low (x 0)))
     ∷ kind (reg ∷ []) (λ x. CallR (low (x 0)))
     ∷ kind [] (λ x. PopRet)
+    ∷ kind (reg ∷ mask ∷ flag ∷ flag ∷ flag ∷ []) (λ x. BlockMove (low (x 0)) (low16 (x 1)) (flagOf (x 2)) (flagOf (x 3)) (flagOf (x 4)))
+    ∷ kind (nib ∷ []) (λ x. PushRets (low (x 0)))
+    ∷ kind (nib ∷ []) (λ x. PopPc (low (x 0)))
+    ∷ kind (byte ∷ base ∷ any32 ∷ []) (λ x. LdPair (low (x 0)) (baseOf (x 1)) (x 2))
+    ∷ kind (byte ∷ base ∷ any32 ∷ []) (λ x. StPair (low (x 0)) (baseOf (x 1)) (x 2))
     ∷ []
 
 -- the row of a kind

@@ -3,12 +3,17 @@ ghost use mathlib.Core.Path.{_≡_};
 ghost use Rattle.operands.specs.Operation.{operands, contentsFault, operationOf};
 ghost use Rattle.operands.specs.Rows.{judged};
 
+mod lengths;
 mod numbers;
 mod rows;
 mod selectors;
 
-use crate::rows::row_of;
+use crate::lengths::moved;
+use crate::lengths::too_long;
+use crate::rows::fast_of;
+use crate::rows::shape_of;
 use block::BOp;
+use block::Memory;
 pub use numbers::byte;
 pub use numbers::get16;
 pub use numbers::get32;
@@ -34,32 +39,41 @@ fn operands_of(p: &[u8]) -> [u32; 6]
     ]
 }
 
-// Kind, guest length, glue and operands of a payload, which is lent as a part of the record: `&s[from..end]`.
-pub fn decode(p: &[u8]) -> Operation
-    ensures { λ r. ⌜ r ≡ judged (contentsFault (now (p .entry))) (operationOf (now (p .entry))) ⌝ }
+// Kind, guest length, glue and operands of a payload, which is lent as a part of the record: `&s[from..end]`. A group is held to the
+// lengths of RAM and XIP.
+pub fn decode(m: Memory, p: &[u8]) -> Operation
+    ensures { λ r. ⌜ r ≡ judged (contentsFault m (now (p .entry))) (operationOf (now (p .entry))) ⌝ }
 {
     if p.len() < 3 {
         return Operation::Fault(2);
     }
     let kind = byte(p, 0);
-    if 40 <= kind {
+    if 45 <= kind {
         return Operation::Fault(3);
     }
-    let row = row_of(kind, operands_of(p));
-    if p.len() != 3 + 4 * row.count {
+    let x = operands_of(p);
+    let shape = shape_of(kind, x);
+    if p.len() != 3 + 4 * shape.count {
         return Operation::Fault(2);
     }
     let glue = byte(p, 2);
     if 1 < glue {
         return Operation::Fault(4);
     }
-    if !row.fit {
+    if !shape.fit {
         return Operation::Fault(4);
     }
-    let fast = row.fast;
-    Operation::Good(BOp {
+    let fast = fast_of(kind, x);
+    let op = BOp {
         fast,
         len: byte(p, 1),
         glue: glue != 0,
-    })
+    };
+    if kind < 40 {
+        return Operation::Good(op);
+    }
+    if too_long(m, moved(kind, x)) {
+        return Operation::Fault(4);
+    }
+    Operation::Good(op)
 }

@@ -4,7 +4,7 @@
 -- Assumes nothing.
 use mathlib.Core.Path.{_≡_, refl, ap, _∙_}
 use mathlib.Core.Bool.{Bool, true, false, not, _&&_, _||_}
-use mathlib.Core.List.{List, [], _∷_, _++_}
+use mathlib.Core.List.{List, [], _∷_, _++_, reverse}
 use Prim.Native.Nat.{ℕ, zero, suc, _+_, _-_, _*_, _/_, _%_, _^_, _<_, _≤_}
 use native.Mathlib.Nat.{mod-lt, mod-eq-of-lt}
 use native.Mathlib.Omega.{arith}
@@ -35,12 +35,12 @@ use Rattle.block.specs.declared.UnKind.the-variants.{Not, Neg, Abs, Rev, Clz, S
 use Rattle.block.specs.declared.DivKind.{DivKind}
 use Rattle.block.specs.declared.DivKind.the-variants.{QuoS, QuoU, RemS, RemU}
 use Rattle.block.specs.declared.Fast.{Fast}
-use Rattle.block.specs.declared.Fast.the-variants.{Nop, MovI, Mov, AddRI, ShlI, SarI, Alu3, Alu3I, Alu2, Alu2I, A4, Ext, MinMax, Un, Div, Mov2, Mov2I, BitExt, BitIns, SpAdd, RFromSp, Ld, St, LdIdx, StIdx, LdPost, StPost, Rmw, PushRet, PopRets, BrI, BrR, DecBr, BitBr, Goto, Call, Rts, GotoR, CallR, PopRet}
+use Rattle.block.specs.declared.Fast.the-variants.{Nop, MovI, Mov, AddRI, ShlI, SarI, Alu3, Alu3I, Alu2, Alu2I, A4, Ext, MinMax, Un, Div, Mov2, Mov2I, BitExt, BitIns, SpAdd, RFromSp, Ld, St, LdIdx, StIdx, LdPost, StPost, Rmw, PushRet, PopRets, BrI, BrR, DecBr, BitBr, Goto, Call, Rts, GotoR, CallR, PopRet, BlockMove, PushRets, PopPc, LdPair, StPair}
 use Rattle.block.specs.declared.BOp.{BOp}
 use Rattle.block.specs.declared.Layout.{Layout}
 use Rattle.block.specs.declared.Memory.{Memory}
 use Rattle.block.specs.declared.Block.{Block}
-use Rattle.block.specs.Block.{opsOf, mayJump, usesBus, bytes}
+use Rattle.block.specs.Block.{opsOf, mayJump, usesBus, bytes, members, span, saved, pairOf}
 use Rattle.block.specs.Checked.{AddressesFit}
 use Rattle.code.specs.Items.{pick, Hole, b, bCond, cb, tb, adr, ldr}
 use Rattle.code.specs.Tree.{Depth, top, under, Var, inner, outer, Code, code, lit, to, exit, block, start, _then_}
@@ -50,7 +50,8 @@ use Rattle.lowering.specs.Instrs.{mov, movX, mov32, addI, subI, add, sub, cmp, 
 use Rattle.lowering.specs.Instrs.{ldr as ldrIns}
 use Rattle.lowering.specs.Cache.{POOL, host, FREE, emptyCache, offReg, oldest, isHeld, chosen, spill, slotFor, seated, stored, flushFrom, flush, reloadFrom, reload}
 use Rattle.lowering.specs.Cache.{ldReg as ldRegCode, stReg as stRegCode}
-use Rattle.lowering.specs.Steps.{Step, lowered, opSteps, opsSteps, blockSteps, behind, alu, acond, ext, choice, rhs, base, un, div, low, rmwValue}
+use Rattle.lowering.specs.Steps.{Step, lowered, opSteps, opsSteps, blockSteps, behind, alu, acond, ext, choice, rhs, base, un, div, low}
+use Rattle.lowering.specs.Steps.{rmwValue, moveWords, moveBase, pushAll, popAll}
 use Rattle.lowering.specs.Fragments.{minus, addImm, brkFirst, even, loads, tryRegion, extended, oddTest, mapTest, stores, call, exitImm, chain, ind, hold, checkBrk, fork, limit, load, store, stepCode, stepCache, stepsCode, opening, closing}
 use Rattle.lowering.specs.Compile.{blockCode}
 
@@ -396,6 +397,28 @@ ne-known : (u : Bool) → pick u 1 0 < 15
 ne-known true = omega arith
 ne-known false = omega arith
 
+-- ---- groups
+moves-known : (u : Bool) (i k : ℕ) (rs : List ℕ) → AllKnown (moveWords u i k rs)
+unfolding moveWords
+moves-known u i k [] = tt
+moves-known true i k (r ∷ rs) = (tt, (tt, (tt, moves-known true i (suc k) rs)))
+moves-known false i k (r ∷ rs) = (tt, (tt, (tt, moves-known false i (suc k) rs)))
+
+behind-known : (post down : Bool) (n r : ℕ) → AllKnown (moveBase post down n r)
+behind-known false down n r = tt
+behind-known true true n r = (tt, (tt, tt))
+behind-known true false n r = (tt, (tt, tt))
+
+pushes-known : (i : ℕ) (rs : List ℕ) → AllKnown (pushAll i rs)
+unfolding pushAll hasEncoder encoders
+pushes-known i [] = tt
+pushes-known i (r ∷ rs) = (tt, (refl, (tt, (tt, (tt, pushes-known i rs)))))
+
+pops-known : (i : ℕ) (rs : List ℕ) → AllKnown (popAll i rs)
+unfolding popAll hasEncoder encoders
+pops-known i [] = tt
+pops-known i (r ∷ rs) = (tt, (tt, (tt, (tt, (refl, (tt, pops-known i rs))))))
+
 -- ---- the kinds
 kind-known : (f : Fast) (i next : ℕ) → AllKnown (lowered f i next)
 unfolding lowered hasEncoder encoders
@@ -439,6 +462,14 @@ kind-known Rts i next = (tt, (tt, tt))
 kind-known (GotoR r) i next = (tt, (tt, tt))
 kind-known (CallR r) i next = (tt, (tt, (tt, (tt, tt))))
 kind-known PopRet i next = (tt, (tt, (refl, (tt, (refl, (tt, (tt, tt)))))))
+kind-known (BlockMove r mask u post down) i next =
+    let moves = moves-known u i 0 (members mask) in
+    (tt, (tt, all-append (moveWords u i 0 (members mask)) _ moves (behind-known post down (span mask) r)))
+kind-known (PushRets n) i next = (tt, (refl, (tt, (tt, (tt, pushes-known i (reverse (saved n)))))))
+kind-known (PopPc n) i next =
+    all-append (popAll i (saved n)) _ (pops-known i (saved n)) (tt, (tt, (refl, (tt, (refl, (tt, (tt, tt)))))))
+kind-known (LdPair p y off) i next = (base-known y, (tt, moves-known false i 0 (pairOf p)))
+kind-known (StPair p y off) i next = (base-known y, (tt, moves-known true i 0 (pairOf p)))
 
 pub op-known : (o : BOp) (i next : ℕ) → AllKnown (opSteps o i next)
 unfolding opSteps

@@ -14,16 +14,21 @@ use lib.ListN.{length, take, drop, length-set}
 use lib.Seq.{take-suc-set, getD-drop}
 use Rattle.block.specs.declared.BOp.{BOp}
 use Rattle.block.specs.declared.Layout.{Layout}
+use Rattle.block.specs.declared.Memory.{Memory}
 use Rattle.block.specs.declared.Block.{Block}
-use Rattle.block.specs.Block.{opsOf}
-use Rattle.block.specs.Checked.{Place, Apart, LayoutFits, RegionFits, MemoryFits, AddressesFit, BOpFits, OpsFit, NoneAfterJump, Checked}
+use Rattle.block.specs.Block.{opsOf, moved}
+use Rattle.block.specs.Checked.{Place, Apart, LayoutFits, RegionFits, MemoryFits, AddressesFit, BOpFits, OpsFit, NoneAfterJump}
+use Rattle.block.specs.Checked.{GroupFits, GroupsFit, Checked}
+use Rattle.operands.specs.Kinds.{fastOf}
+use Rattle.operands.specs.Operation.{operands}
 use Rattle.operands.proofs.Laws.{then-zero, gives-zero, not-true, or-false-both}
 use Rattle.operands.proofs.Contents.{Contents}
 use Rattle.operands.proofs.Fitting.{fast-fits}
-use Rattle.record.specs.Record.{_gives_, byteAt, num16, num32, num64, payloadLength, payload, Span, span, spans, any, far, unaligned, meets}
-use Rattle.record.specs.Record.{overlap, layoutOf, layoutFault, memoryOf, regionFault, memoryFault, addressesOf, startFault, operationOf, lastJumps, operationFault, Reading, Accepted, accepted}
-use Rattle.record.specs.Record.{refused, refusedOr, push, endOr, operations, header, fieldFault, layoutField, memoryField, addressesField, startField, reading}
-use Rattle.record.proofs.Steps.{good}
+use Rattle.record.specs.Record.{_gives_, byteAt, num16, num32, num64, payloadLength, payload, Span, span, spans, any, far, unaligned}
+use Rattle.record.specs.Record.{meets, overlap, layoutOf, layoutFault, memoryOf, regionFault, memoryFault, addressesOf, startFault}
+use Rattle.record.specs.Record.{operationOf, lastJumps, Reading, Accepted, accepted, refused, refusedOr, push, endOr, operations}
+use Rattle.record.specs.Record.{header, fieldFault, layoutField, memoryField, addressesField, startField, reading}
+use Rattle.record.proofs.Steps.{good, faultAt}
 
 -- ---- bytes and the numbers made of them
 
@@ -161,15 +166,27 @@ start-fits a e =
 
 -- ---- the operations
 
-operation-fits : (p : List ℕ) → Bytes p → Contents p → BOpFits (operationOf p)
+operation-fits : (m : Memory) (p : List ℕ) → Bytes p → Contents m p → BOpFits (operationOf p)
 unfolding operationOf
-operation-fits p h c = record { fast = fast-fits (byteAt p 0) p (λ j. below-32 p (3 + 4 * j) h) (c .fit); len = h 1 }
+operation-fits m p h c = record { fast = fast-fits (byteAt p 0) p (λ j. below-32 p (3 + 4 * j) h) (c .fit); len = h 1 }
+
+group-fits : (m : Memory) (p : List ℕ) → Contents m p → GroupFits m (operationOf p .fast)
+unfolding operationOf
+group-fits m p c =
+    let n = moved (fastOf (byteAt p 0) (operands p)) in
+    let e = or-false-both (ltb (m .«ram_len») (4 * n)) (ltb (m .«xip_len») (4 * n)) (c .group) in
+    (ltb-false (m .«ram_len») (4 * n) (e .0), ltb-false (m .«xip_len») (4 * n) (e .1))
 
 one-more-fits : (os : List BOp) (o : BOp) → OpsFit os → BOpFits o → OpsFit (os ++ (o ∷ []))
 one-more-fits [] o h f = (f, tt)
 one-more-fits (x ∷ os) o h f = (h .0, one-more-fits os o (h .1) f)
 
-none-after : (n : ℕ) (ops : List BOp) (o : BOp) → n ≤ length ops → NoneAfterJump (take n ops) → lastJumps n ops ≡ false → NoneAfterJump (take n ops ++ (o ∷ []))
+one-more-group : (m : Memory) (os : List BOp) (o : BOp) → GroupsFit m os → GroupFits m (o .fast) → GroupsFit m (os ++ (o ∷ []))
+one-more-group m [] o h f = (f, tt)
+one-more-group m (x ∷ os) o h f = (h .0, one-more-group m os o (h .1) f)
+
+none-after : (n : ℕ) (ops : List BOp) (o : BOp) → n ≤ length ops → NoneAfterJump (take n ops) → lastJumps n ops ≡ false
+    → NoneAfterJump (take n ops ++ (o ∷ []))
 none-after zero ops o l h e = tt
 none-after (suc n) [] o l h e = absurd (not-suc-le-zero l)
 none-after (suc zero) (x ∷ ops) o l h e = (e, tt)
@@ -179,8 +196,9 @@ none-after (suc (suc n)) (x ∷ (y ∷ ops)) o l h e = (h .0, none-after (suc n)
 pushed : (b : Block) (o : BOp) → b .n < length (b .ops) → opsOf (push b o) ≡ opsOf b ++ (o ∷ [])
 pushed b o h = rw add-one (take-suc-set (b .ops) (b .n) o h)
 
-checked-push : (b : Block) (o : BOp) → Checked b → b .n < 32 → BOpFits o → lastJumps (b .n) (b .ops) ≡ false → Checked (push b o)
-checked-push b o c room f j =
+checked-push : (b : Block) (o : BOp) → Checked b → b .n < 32 → BOpFits o → GroupFits (b .memory) (o .fast)
+    → lastJumps (b .n) (b .ops) ≡ false → Checked (push b o)
+checked-push b o c room f g j =
     let h : b .n < length (b .ops) = omega (arith, c .size, room) in
     let l : b .n ≤ length (b .ops) = omega arith in
     record {
@@ -193,6 +211,7 @@ checked-push b o c room f j =
       size = length-set (b .ops) (b .n) o ∙ c .size;
       ops = rw (pushed b o h) (one-more-fits (opsOf b) o (c .ops) f);
       last-jumps = rw (pushed b o h) (none-after (b .n) (b .ops) o l (c .last-jumps) j);
+      groups = rw (pushed b o h) (one-more-group (b .memory) (opsOf b) o (c .groups) g);
     }
 
 -- a reading that is accepted was not refused at this place
@@ -203,17 +222,19 @@ not-refused (suc f) place next e = let z : _≡_ {A = ℕ} 0 1 = cc in absurd (o
 
 one-step : (s : List ℕ) (at : ℕ) (b : Block) (next : Reading) → Bytes s → Checked b
     → (Checked (push b (operationOf (payload s at))) → next .answer ≡ Accepted → Checked (next .block))
-    → (t : Bool) → endOr t b (refusedOr (operationFault s at (b .n) (lastJumps (b .n) (b .ops))) at next) .answer ≡ Accepted
-    → Checked (endOr t b (refusedOr (operationFault s at (b .n) (lastJumps (b .n) (b .ops))) at next) .block)
+    → (t : Bool) → endOr t b (refusedOr (faultAt s at b) at next) .answer ≡ Accepted
+    → Checked (endOr t b (refusedOr (faultAt s at b) at next) .block)
 one-step s at b next h c rest true e = c
 one-step s at b next h c rest false e =
-    let r = not-refused (operationFault s at (b .n) (lastJumps (b .n) (b .ops))) at next e in
-    let g = good s at (b .n) (lastJumps (b .n) (b .ops)) (r .0) in
-    let o = operation-fits (payload s at) (payload-bytes s at h) (g .contents) in
-    let p = checked-push b (operationOf (payload s at)) c (g .room) o (g .before) in
+    let r = not-refused (faultAt s at b) at next e in
+    let g = good (b .memory) s at (b .n) (lastJumps (b .n) (b .ops)) (r .0) in
+    let o = operation-fits (b .memory) (payload s at) (payload-bytes s at h) (g .contents) in
+    let m = group-fits (b .memory) (payload s at) (g .contents) in
+    let p = checked-push b (operationOf (payload s at)) c (g .room) o m (g .before) in
     rw (r .1) (rest p (rw (r .1) at e))
 
-operations-checked : (k : ℕ) (s : List ℕ) (at : ℕ) (b : Block) → Bytes s → Checked b → operations k s at b .answer ≡ Accepted → Checked (operations k s at b .block)
+operations-checked : (k : ℕ) (s : List ℕ) (at : ℕ) (b : Block) → Bytes s → Checked b → operations k s at b .answer ≡ Accepted
+    → Checked (operations k s at b .block)
 unfolding operations
 operations-checked zero s at b h c e = c
 operations-checked (suc k) s at b h c e =
@@ -240,17 +261,21 @@ header-checked s h l m a =
       size = refl;
       ops = tt;
       last-jumps = tt;
+      groups = tt;
     }
 
 pub read-checked : (s : List ℕ) → Bytes s → reading s .answer ≡ Accepted → Checked (reading s .block)
 unfolding reading
 read-checked s h e =
     let l = not-refused (layoutField s) 0 _ e in
-    let m = not-refused (memoryField s) 23 _ (rw (l .1) at e) in
-    let a = not-refused (addressesField s) 43 _ (rw (m .1) at (rw (l .1) at e)) in
-    let t = not-refused (startField s) 70 _ (rw (a .1) at (rw (m .1) at (rw (l .1) at e))) in
-    rw (l .1, m .1, a .1, t .1)
-    (operations-checked 33 s 77 (header s) h (header-checked s h (l .0) (m .0) (t .0)) (rw (t .1) at (rw (a .1) at (rw (m .1) at (rw (l .1) at e)))))
+    let e₁ = rw (l .1) at e in
+    let m = not-refused (memoryField s) 23 _ e₁ in
+    let e₂ = rw (m .1) at e₁ in
+    let a = not-refused (addressesField s) 43 _ e₂ in
+    let e₃ = rw (a .1) at e₂ in
+    let t = not-refused (startField s) 70 _ e₃ in
+    let e₄ = rw (t .1) at e₃ in
+    rw (l .1, m .1, a .1, t .1) (operations-checked 33 s 77 (header s) h (header-checked s h (l .0) (m .0) (t .0)) e₄)
 
 -- the same of an answer that is the definition's
 pub answer-checked : (s : List ℕ) (r : Reading) → Bytes s → r ≡ reading s → r .answer ≡ Accepted → Checked (r .block)

@@ -7,8 +7,8 @@ use native.Mathlib.Nat.{suc-add}
 use lib.Dec.{leb}
 use lib.ListN.{length}
 use Rattle.block.specs.declared.Block.{Block}
-use Rattle.record.specs.Record.{payloadLength, payload, operationOf, lastJumps, operationFault, Reading, refusedOr, push, endOr, operations, header}
-use Rattle.record.proofs.Steps.{good}
+use Rattle.record.specs.Record.{payloadLength, payload, operationOf, lastJumps, Reading, refusedOr, push, endOr, operations, header}
+use Rattle.record.proofs.Steps.{good, faultAt}
 
 -- what follows an operation counts only where the operation has no fault
 or-same : (f place : ℕ) (x y : Reading) → (f ≡ 0 → x ≡ y) → refusedOr f place x ≡ refusedOr f place y
@@ -16,17 +16,18 @@ unfolding refusedOr
 or-same zero place x y h = h refl
 or-same (suc f) place x y h = refl
 
-enough-from : (j k : ℕ) (s : List ℕ) (at : ℕ) (b : Block) → 33 ≤ b .n + suc j → operations (suc (j + k)) s at b ≡ operations (suc j) s at b
+enough-from : (j k : ℕ) (s : List ℕ) (at : ℕ) (b : Block) → 33 ≤ b .n + suc j
+    → operations (suc (j + k)) s at b ≡ operations (suc j) s at b
 unfolding operations
 enough-from zero k s at b h =
     ap (endOr (leb (length s) at) b)
-    (or-same (operationFault s at (b .n) (lastJumps (b .n) (b .ops))) at _ _
-    (λ e. let r : b .n < 32 = good s at (b .n) (lastJumps (b .n) (b .ops)) e .room in absurd (omega arith)))
+    (or-same (faultAt s at b) at _ _
+    (λ e. let r : b .n < 32 = good (b .memory) s at (b .n) (lastJumps (b .n) (b .ops)) e .room in absurd (omega arith)))
 enough-from (suc j) k s at b h =
     let h′ : 33 ≤ b .n + 1 + suc j = omega arith in
     rw suc-add
     (ap (endOr (leb (length s) at) b)
-    (or-same (operationFault s at (b .n) (lastJumps (b .n) (b .ops))) at _ _
+    (or-same (faultAt s at b) at _ _
     (λ e. enough-from j k s (at + 3 + payloadLength s at) (push b (operationOf (payload s at))) h′)))
 
 pub enough : (k : ℕ) (s : List ℕ) → operations (33 + k) s 77 (header s) ≡ operations 33 s 77 (header s)

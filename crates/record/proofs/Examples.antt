@@ -1,9 +1,12 @@
--- Document 01's examples, by computation of the definition: the empty block of the listing, and an example of each of the faults 1 to 9.
+-- Document 01's examples, by computation of the definition: the empty block of the listing, and an example of each of the faults 1 to 9;
+-- and groups on both sides of their tests.
 use mathlib.Core.Path.{_≡_, refl}
 use mathlib.Core.List.{List, [], _∷_, _++_}
 use Prim.Native.Nat.{ℕ, zero, suc, _/_, _%_}
-use Rattle.record.specs.Record.{num16, num32, num64, fieldFault, layoutFault, regionFault, memoryFault, startFault, contentsFault, operationOf, operationFault}
-use Rattle.record.specs.Record.{operations, header, refusedOr, layoutField, memoryField, addressesField, startField, reading, Accepted, Refused}
+use Rattle.block.specs.Block.{places, upFrom}
+use Rattle.record.specs.Record.{num16, num32, num64, fieldFault, layoutFault, regionFault, memoryFault, startFault, contentsFault}
+use Rattle.record.specs.Record.{operationOf, operationFault, operations, header, refusedOr, layoutField, memoryField, addressesField}
+use Rattle.record.specs.Record.{startField, reading, Answer, Accepted, Refused}
 
 -- four bytes, lowest first
 abbrev word : ℕ → List ℕ
@@ -13,16 +16,19 @@ abbrev zeros : ℕ → List ℕ
 zeros zero = []
 zeros (suc n) = 0 ∷ zeros n
 
--- fields 01 to 04 as the listing has them, but for sp, RAM's length and the block's address
-abbrev fields : ℕ → ℕ → ℕ → List ℕ
-fields sp len pc0 =
+-- fields 01 to 04 as the listing has them, but for sp, the lengths of RAM and XIP, and the block's address
+abbrev fields : (sp ram xip pc0 : ℕ) → List ℕ
+fields sp ram xip pc0 =
     (1 ∷ 20 ∷ 0 ∷ word 0) ++ word sp ++ word 68 ++ word 72 ++ word 76
-    ++ (2 ∷ 17 ∷ 0 ∷ word 0x01000000) ++ word len ++ word 0x02000000 ++ word 0x00100000 ++ (0 ∷ [])
+    ++ (2 ∷ 17 ∷ 0 ∷ word 0x01000000) ++ word ram ++ word 0x02000000 ++ word xip ++ (0 ∷ [])
     ++ (3 ∷ 24 ∷ 0 ∷ zeros 24)
     ++ (4 ∷ 4 ∷ 0 ∷ word pc0)
 
+abbrev regions : (ram xip : ℕ) → List ℕ
+regions ram xip = fields 64 ram xip 0x02000000
+
 abbrev listing : List ℕ
-listing = fields 64 0x00010000 0x02000000
+listing = regions 0x00010000 0x00100000
 
 -- an operation of guest length 2 without glue
 abbrev operation : ℕ → List ℕ
@@ -32,52 +38,105 @@ abbrev nops : ℕ → List ℕ
 nops zero = []
 nops (suc n) = operation 0 ++ nops n
 
+-- what reading answers, computed
+unfoldable answer : List ℕ → Answer
+unfolding
+    num16 num32 num64 fieldFault layoutFault regionFault memoryFault startFault contentsFault operationOf operationFault operations
+    header refusedOr layoutField memoryField addressesField startField reading places upFrom
+answer s = reading s .answer
+
 -- an empty block is accepted
-empty-block : reading listing .answer ≡ Accepted
-unfolding num16 num32 num64 fieldFault layoutFault regionFault memoryFault startFault contentsFault operationOf operationFault operations header refusedOr layoutField memoryField addressesField startField reading
+empty-block : answer listing ≡ Accepted
+unfolding answer
 empty-block = refl
 
 -- empty record
-fault-1 : reading [] .answer ≡ Refused 1 0
-unfolding num16 num32 num64 fieldFault layoutFault regionFault memoryFault startFault contentsFault operationOf operationFault operations header refusedOr layoutField memoryField addressesField startField reading
+fault-1 : answer [] ≡ Refused 1 0
+unfolding answer
 fault-1 = refl
 
 -- whole first field, tag 02
-fault-2 : reading (2 ∷ 20 ∷ 0 ∷ zeros 20) .answer ≡ Refused 2 0
-unfolding num16 num32 num64 fieldFault layoutFault regionFault memoryFault startFault contentsFault operationOf operationFault operations header refusedOr layoutField memoryField addressesField startField reading
+fault-2 : answer (2 ∷ 20 ∷ 0 ∷ zeros 20) ≡ Refused 2 0
+unfolding answer
 fault-2 = refl
 
 -- 33 Nops
-fault-8 : reading (listing ++ nops 33) .answer ≡ Refused 8 269
-unfolding num16 num32 num64 fieldFault layoutFault regionFault memoryFault startFault contentsFault operationOf operationFault operations header refusedOr layoutField memoryField addressesField startField reading
+fault-8 : answer (listing ++ nops 33) ≡ Refused 8 269
+unfolding answer
 fault-8 = refl
 
 -- Rts, Nop
-fault-9 : reading (listing ++ operation 36 ++ operation 0) .answer ≡ Refused 9 83
-unfolding num16 num32 num64 fieldFault layoutFault regionFault memoryFault startFault contentsFault operationOf operationFault operations header refusedOr layoutField memoryField addressesField startField reading
+fault-9 : answer (listing ++ operation 36 ++ operation 0) ≡ Refused 9 83
+unfolding answer
 fault-9 = refl
 
--- kind 40
-fault-3 : reading (listing ++ operation 40) .answer ≡ Refused 3 77
-unfolding num16 num32 num64 fieldFault layoutFault regionFault memoryFault startFault contentsFault operationOf operationFault operations header refusedOr layoutField memoryField addressesField startField reading
+-- kind 45
+fault-3 : answer (listing ++ operation 45) ≡ Refused 3 77
+unfolding answer
 fault-3 = refl
 
 -- MovI d = 16
-fault-4 : reading (listing ++ (5 ∷ 11 ∷ 0 ∷ 1 ∷ 2 ∷ 0 ∷ word 16) ++ word 0) .answer ≡ Refused 4 77
-unfolding num16 num32 num64 fieldFault layoutFault regionFault memoryFault startFault contentsFault operationOf operationFault operations header refusedOr layoutField memoryField addressesField startField reading
+fault-4 : answer (listing ++ (5 ∷ 11 ∷ 0 ∷ 1 ∷ 2 ∷ 0 ∷ word 16) ++ word 0) ≡ Refused 4 77
+unfolding answer
 fault-4 = refl
 
 -- sp = 62
-fault-5 : reading (fields 62 0x00010000 0x02000000) .answer ≡ Refused 5 0
-unfolding num16 num32 num64 fieldFault layoutFault regionFault memoryFault startFault contentsFault operationOf operationFault operations header refusedOr layoutField memoryField addressesField startField reading
+fault-5 : answer (fields 62 0x00010000 0x00100000 0x02000000) ≡ Refused 5 0
+unfolding answer
 fault-5 = refl
 
 -- RAM length 3
-fault-6 : reading (fields 64 3 0x02000000) .answer ≡ Refused 6 23
-unfolding num16 num32 num64 fieldFault layoutFault regionFault memoryFault startFault contentsFault operationOf operationFault operations header refusedOr layoutField memoryField addressesField startField reading
+fault-6 : answer (regions 3 0x00100000) ≡ Refused 6 23
+unfolding answer
 fault-6 = refl
 
 -- 04000000
-fault-7 : reading (fields 64 0x00010000 0x04000000) .answer ≡ Refused 7 70
-unfolding num16 num32 num64 fieldFault layoutFault regionFault memoryFault startFault contentsFault operationOf operationFault operations header refusedOr layoutField memoryField addressesField startField reading
+fault-7 : answer (fields 64 0x00010000 0x00100000 0x04000000) ≡ Refused 7 70
+unfolding answer
 fault-7 = refl
+
+-- ---- groups: "a group that moves more bytes (four for each word, rets and pc included) than the RAM's or the XIP's length answers 4"
+
+-- PushRets or PopPc
+abbrev saving : (kind n : ℕ) → List ℕ
+saving kind n = (5 ∷ 7 ∷ 0 ∷ kind ∷ 2 ∷ 0 ∷ []) ++ word n
+
+-- LdPair or StPair, at sp
+abbrev pair : ℕ → List ℕ
+pair kind = (5 ∷ 15 ∷ 0 ∷ kind ∷ 2 ∷ 0 ∷ []) ++ word 255 ++ word 16 ++ word 0
+
+abbrev move : (mask : ℕ) → List ℕ
+move mask = (5 ∷ 23 ∷ 0 ∷ 40 ∷ 2 ∷ 0 ∷ []) ++ word 15 ++ word mask ++ word 1 ++ word 0 ++ word 1
+
+-- two registers, in 8 bytes: in both regions, in RAM of 7, in XIP of 7
+pairs :
+    (answer (regions 8 8 ++ pair 43 ++ pair 44) ≡ Accepted)
+    × (answer (regions 7 8 ++ pair 43) ≡ Refused 4 77)
+    × (answer (regions 8 7 ++ pair 44) ≡ Refused 4 77)
+unfolding answer
+pairs = (refl, refl, refl)
+
+-- three registers, in 12 bytes, and none; the same in RAM of 11; a mask of 17 bits
+moves :
+    (answer (regions 12 12 ++ move 7 ++ move 0) ≡ Accepted)
+    × (answer (regions 11 12 ++ move 7) ≡ Refused 4 77)
+    × (answer (listing ++ move 65536) ≡ Refused 4 77)
+unfolding answer
+moves = (refl, refl, refl)
+
+-- rets and r0 to r3, r3, r4, r4 to r15; the last, 52 bytes, in XIP of 51; the first, 20 bytes, in RAM of 19; n = 16
+pushes :
+    (answer (regions 52 52 ++ saving 41 0 ++ saving 41 3 ++ saving 41 4 ++ saving 41 15) ≡ Accepted)
+    × (answer (regions 52 51 ++ saving 41 15) ≡ Refused 4 77)
+    × (answer (regions 19 52 ++ saving 41 0) ≡ Refused 4 77)
+    × (answer (listing ++ saving 41 16) ≡ Refused 4 77)
+unfolding answer
+pushes = (refl, refl, refl, refl)
+
+-- r4 and pc, in 8 bytes; in RAM of 7; PopPc, Nop
+pops :
+    (answer (regions 8 8 ++ saving 42 4) ≡ Accepted)
+    × (answer (regions 7 8 ++ saving 42 4) ≡ Refused 4 77)
+    × (answer (listing ++ saving 42 4 ++ operation 0) ≡ Refused 9 87)
+unfolding answer
+pops = (refl, refl, refl)

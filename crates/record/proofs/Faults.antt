@@ -9,15 +9,18 @@ use borrow.Author.Tests.{leb-false}
 use lib.Dec.{leb, ltb, eqb}
 use lib.ListN.{length}
 use Rattle.block.specs.declared.Layout.{Layout}
+use Rattle.block.specs.declared.Memory.{Memory}
 use Rattle.block.specs.declared.Block.{Block}
-use Rattle.operands.specs.Kinds.{kinds, kindAt}
-use Rattle.operands.specs.Operation.{operandsFit}
+use Rattle.block.specs.Block.{moved}
+use Rattle.operands.specs.Kinds.{kinds, kindAt, fastOf}
+use Rattle.operands.specs.Operation.{operands, operandsFit, tooLong}
 use Rattle.record.specs.Record.{_gives_, _then_, byteAt, num32, payloadLength, payload, cut, fieldFault, layoutOf, any, far}
 use Rattle.record.specs.Record.{unaligned, spans, overlap, layoutFault, regionFault, memoryFault, startFault, contentsFault}
 use Rattle.record.specs.Record.{operationOf, lastJumps, operationFault, Answer, Accepted, Refused, Reading, refusedOr, push, endOr}
 use Rattle.record.specs.Record.{operations, header, layoutField, memoryField, addressesField, startField, reading}
 use Rattle.record.specs.Record.{numberOf, placeOf, Told}
 use Rattle.record.proofs.Laws.{layout-whole, memory-whole, addresses-whole}
+use Rattle.record.proofs.Steps.{faultAt}
 
 -- ---- numbers up to 9
 
@@ -57,21 +60,23 @@ memory-le p =
     then-le _ _ (region-le (num32 p 0) (num32 p 4))
     (then-le _ _ (region-le (num32 p 8) (num32 p 12)) (last-le (ltb 1 (byteAt p 16)) (omega arith)))
 
-contents-le : (p : List ℕ) → contentsFault p ≤ 9
+contents-le : (m : Memory) (p : List ℕ) → contentsFault m p ≤ 9
 unfolding contentsFault
-contents-le p =
+contents-le m p =
     let row = kindAt (byteAt p 0) in
+    let group = tooLong m (moved (fastOf (byteAt p 0) (operands p))) in
     test-le (ltb (length p) 3) (omega arith)
     (test-le (leb (length kinds) (byteAt p 0)) (omega arith)
     (test-le (not (eqb (length p) (3 + 4 * length (row .operands)))) (omega arith)
-    (test-le (ltb 1 (byteAt p 2)) (omega arith) (last-le (not (operandsFit (row .operands) p 0)) (omega arith)))))
+    (test-le (ltb 1 (byteAt p 2)) (omega arith)
+    (test-le (not (operandsFit (row .operands) p 0)) (omega arith) (last-le group (omega arith))))))
 
-operation-le : (s : List ℕ) (at n : ℕ) (jumped : Bool) → operationFault s at n jumped ≤ 9
+operation-le : (m : Memory) (s : List ℕ) (at n : ℕ) (jumped : Bool) → operationFault m s at n jumped ≤ 9
 unfolding operationFault
-operation-le s at n jumped =
+operation-le m s at n jumped =
     test-le (cut s at) (omega arith)
     (test-le (not (eqb (byteAt s at) 5)) (omega arith)
-    (test-le (leb 32 n) (omega arith) (test-le jumped (omega arith) (contents-le (payload s at)))))
+    (test-le (leb 32 n) (omega arith) (test-le jumped (omega arith) (contents-le m (payload s at)))))
 
 layout-field-le : (s : List ℕ) → layoutField s ≤ 9
 unfolding layoutField
@@ -117,7 +122,7 @@ known-operations : (k : ℕ) (s : List ℕ) (at : ℕ) (b : Block) → Known (le
 unfolding operations
 known-operations zero s at b = tt
 known-operations (suc k) s at b =
-    known-end s at (operationFault s at (b .n) (lastJumps (b .n) (b .ops))) b _ (operation-le s at (b .n) (lastJumps (b .n) (b .ops)))
+    known-end s at (faultAt s at b) b _ (operation-le (b .memory) s at (b .n) (lastJumps (b .n) (b .ops)))
     (known-operations k s (at + 3 + payloadLength s at) (push b (operationOf (payload s at))))
     (leb (length s) at) refl
 

@@ -10,7 +10,8 @@ use native.Mathlib.Nat.{add-zero}
 use lib.ListN.{length, take, drop, length-take}
 use lib.Seq.{getD-take, getD-drop}
 use Rattle.operands.proofs.Laws.{then-zero, gives-zero, not-true, or-false-both}
-use Rattle.record.specs.Record.{_gives_, byteAt, payloadLength, payload, cut, fieldFault, layoutField, memoryField, addressesField, startField}
+use Rattle.record.specs.Record.{_gives_, byteAt, payloadLength, payload, cut, fieldFault, layoutField, memoryField}
+use Rattle.record.specs.Record.{addressesField, startField}
 
 pub record Whole (s : List ℕ) (at len : ℕ) : Type 0 where
   pub inside : at + 3 + len ≤ length s

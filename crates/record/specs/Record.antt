@@ -121,14 +121,14 @@ abbrev pub lastJumps : ℕ → List BOp → Bool
 lastJumps zero ops = false
 lastJumps (suc n) ops = mayJump (getD ops n nop .fast)
 
--- with n operations before it, and `jumped` if the last of them jumps
-unfoldable pub operationFault : List ℕ → ℕ → ℕ → Bool → ℕ
-operationFault s at n jumped =
+-- in a block with this memory, with n operations before it, and `jumped` if the last of them jumps
+unfoldable pub operationFault : Memory → List ℕ → ℕ → ℕ → Bool → ℕ
+operationFault m s at n jumped =
     cut s at gives 1
     then not (eqb (byteAt s at) 5) gives 2
     then leb 32 n gives 8
     then jumped gives 9
-    then contentsFault (payload s at)
+    then contentsFault m (payload s at)
 
 -- ---- the record
 
@@ -170,7 +170,7 @@ unfoldable pub operations : ℕ → List ℕ → ℕ → Block → Reading
 operations zero s at b = accepted b
 operations (suc fields) s at b =
     endOr (leb (length s) at) b
-    (refusedOr (operationFault s at (b .n) (lastJumps (b .n) (b .ops))) at
+    (refusedOr (operationFault (b .memory) s at (b .n) (lastJumps (b .n) (b .ops))) at
     (operations fields s (at + 3 + payloadLength s at) (push b (operationOf (payload s at)))))
 
 -- fields 01 to 04 of a record that has them whole, and no operation

@@ -22,6 +22,7 @@ use block::Block;
 use block::Fast;
 use block::Layout;
 use block::Memory;
+use block::jumps;
 use operands::Operation;
 use operands::byte;
 use operands::get16;
@@ -105,13 +106,14 @@ fn read_operations(s: &[u8], b: Block) -> Reading
     requires { ⌜ (77 ≤ length (now s)) × (b .n ≡ 0) × (length (b .ops) ≡ 32) ⌝ }
     ensures { λ r. ⌜ r ≡ operationsOf 33 (now (s .entry)) 77 b ⌝ }
 {
+    let m = b.memory;
     let mut answer = Answer::Accepted;
     let mut block = b;
     let mut n: u32 = 0;
     let mut jumped = false;
     let mut at: usize = 77;
     while at < s.len() {
-        let o = read_operation(s, at, n, jumped);
+        let o = read_operation(m, s, at, n, jumped);
         match o {
             Operation::Fault(number) => {
                 answer = Answer::Refused(number, at);
@@ -123,7 +125,7 @@ fn read_operations(s: &[u8], b: Block) -> Reading
                 block.ops[n as usize] = op;
             }
         }
-        jumped = 30 <= byte(s, at + 3);
+        jumped = jumps(byte(s, at + 3));
         n += 1;
         at = at + 3 + get16(s, at + 1) as usize;
     }

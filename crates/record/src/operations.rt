@@ -6,15 +6,16 @@ ghost use Rattle.operands.specs.Operation.{operationOf};
 ghost use Rattle.operands.specs.Rows.{judged};
 ghost use Rattle.record.specs.Record.{payload, operationFault};
 use crate::fields::cut;
+use block::Memory;
 use operands::Operation;
 use operands::byte;
 use operands::decode;
 use operands::get16;
 
-// The field at `at`, with n operations before it of which the last jumps if `jumped`.
-pub fn read_operation(s: &[u8], at: usize, n: u32, jumped: bool) -> Operation
+// The field at `at` of a block with this memory, with n operations before it of which the last jumps if `jumped`.
+pub fn read_operation(m: Memory, s: &[u8], at: usize, n: u32, jumped: bool) -> Operation
     requires { ⌜ at ≤ length (now s) ⌝ }
-    ensures { λ r. ⌜ r ≡ judged (operationFault (now (s .entry)) at n jumped) (operationOf (payload (now (s .entry)) at)) ⌝ }
+    ensures { λ r. ⌜ r ≡ judged (operationFault m (now (s .entry)) at n jumped) (operationOf (payload (now (s .entry)) at)) ⌝ }
 {
     if cut(s, at) {
         return Operation::Fault(1);
@@ -30,5 +31,5 @@ pub fn read_operation(s: &[u8], at: usize, n: u32, jumped: bool) -> Operation
     }
     let from = at + 3;
     let end = from + get16(s, at + 1) as usize;
-    decode(&s[from..end])
+    decode(m, &s[from..end])
 }

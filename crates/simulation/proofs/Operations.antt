@@ -16,11 +16,11 @@ use Rattle.arm.specs.declared.Size.the-variants.{W}
 use Rattle.block.specs.declared.Cond.the-variants.{Eq, Ne}
 use Rattle.block.specs.declared.Width.the-variants.{Word as B32}
 use Rattle.block.specs.declared.Fast.{Fast}
-use Rattle.block.specs.declared.Fast.the-variants.{Nop, MovI, Mov, AddRI, ShlI, SarI, Alu3, Alu3I, Alu2, Alu2I, A4, Ext, MinMax, Un, Div, Mov2, Mov2I, BitExt, BitIns, SpAdd, RFromSp, Ld, St, LdIdx, StIdx, LdPost, StPost, Rmw, PushRet, PopRets, BrI, BrR, DecBr, BitBr, Goto, Call, Rts, GotoR, CallR, PopRet}
+use Rattle.block.specs.declared.Fast.the-variants.{Nop, MovI, Mov, AddRI, ShlI, SarI, Alu3, Alu3I, Alu2, Alu2I, A4, Ext, MinMax, Un, Div, Mov2, Mov2I, BitExt, BitIns, SpAdd, RFromSp, Ld, St, LdIdx, StIdx, LdPost, StPost, Rmw, PushRet, PopRets, BrI, BrR, DecBr, BitBr, Goto, Call, Rts, GotoR, CallR, PopRet, BlockMove, PushRets, PopPc, LdPair, StPair}
 use Rattle.block.specs.declared.Memory.{Memory}
 use Rattle.block.specs.declared.BOp.{BOp}
 use Rattle.block.specs.declared.Block.{Block}
-use Rattle.block.specs.Block.{opsOf, mayJump}
+use Rattle.block.specs.Block.{opsOf, mayJump, saved}
 use Rattle.block.specs.Checked.{Checked, OpsFit, NoneAfterJump}
 use Rattle.code.specs.Items.{pick}
 use Rattle.code.specs.Tree.{top, Code, words}
@@ -33,7 +33,7 @@ use Rattle.card.specs.Word.{minus, holds}
 use Rattle.card.specs.Memory.{Access, got, unmet}
 use Rattle.card.specs.Memory.{load as loadCard}
 use lib.Bits.{bitAnd}
-use Rattle.card.specs.Step.{Way, exits, chains, After, on, out, starved, withLoaded, indBrk, opStep}
+use Rattle.card.specs.Step.{Way, exits, chains, After, on, out, starved, withLoaded, pop, indBrk, popAll, opStep}
 use Rattle.card.specs.Step.{fork as forkCard, ind as indCard}
 use Rattle.card.specs.Run.{End, checked, opsFrom}
 use Rattle.card.specs.Run.{left as leaves, andThen as thenCard, run as runCard}
@@ -59,7 +59,9 @@ use Rattle.registers.proofs.Frags.{frag-nil}
 
 -- ---- a list of steps in two parts
 module _ (b : Block) where
-  starts-append : (rc : RegCache) (xs ys : List Step) (p : ℕ) → starts (stepsCode b rc (xs ++ ys)) p ≡ starts (stepsCode b rc xs) p ++ starts (stepsCode b (cacheAfter rc xs) ys) (p + words (stepsCode b rc xs))
+  starts-append : (rc : RegCache) (xs ys : List Step) (p : ℕ)
+      → starts (stepsCode b rc (xs ++ ys)) p
+      ≡ starts (stepsCode b rc xs) p ++ starts (stepsCode b (cacheAfter rc xs) ys) (p + words (stepsCode b rc xs))
   unfolding stepsCode cacheAfter words starts
   starts-append rc [] ys p = ap (starts (stepsCode b rc ys)) (omega arith)
   starts-append rc (x ∷ xs) ys p =
@@ -90,7 +92,9 @@ module _ (b : Block) where
       let c : Code top = stepCode b rc x in
       let d : Code top = stepsCode b (stepCache rc x) xs in
       let e : Code top = stepsCode b (cacheAfter (stepCache rc x) xs) ys in
-      then-same (does M c p s) _ _ (λ s₁. does-append M (stepCache rc x) xs ys (p + words c) s₁ ∙ ap (λ q. andThen (does M d (p + words c) s₁) (λ s₂. does M e q s₂)) (omega arith))
+      then-same (does M c p s) _ _
+      (λ s₁. does-append M (stepCache rc x) xs ys (p + words c) s₁
+      ∙ ap (λ q. andThen (does M d (p + words c) s₁) (λ s₂. does M e q s₂)) (omega arith))
       ∙ sym (then-assoc (does M c p s) (λ s₁. does M d (p + words c) s₁) (λ s₂. does M e (p + (words c + words d)) s₂))
 
 -- a jump does not go on
@@ -104,48 +108,65 @@ unfolding Gone
 fork-out true i next target c = tt
 fork-out false i next target c = tt
 
-popped-out : (r : Access) (i : ℕ) → Gone (withLoaded r (λ v c. indBrk i v (addSp 4 c)))
+loaded-out : (r : Access) (f : ℕ → Card → After) → ((v : ℕ) (c : Card) → Gone (f v c)) → Gone (withLoaded r f)
 unfolding Gone
-popped-out (got v c) i = by (eqb (c .brk) 0)
+loaded-out (got v c) f h = h v c
+loaded-out unmet f h = tt
+
+looked-out : (i target : ℕ) (c : Card) → Gone (indBrk i target c)
+unfolding Gone
+looked-out i target c = by (eqb (c .brk) 0)
   where
-    by : (u : Bool) → Gone (cond u (indCard i v (addSp 4 c)) (out exits (arrive v (suc i) (addSp 4 c))))
+    by : (u : Bool) → Gone (cond u (indCard i target c) (out exits (arrive target (suc i) c)))
     by true = tt
     by false = tt
-popped-out unmet i = tt
+
+module _ (m : Memory) (flash : List ℕ) (i : ℕ) where
+  pc-out : (c : Card) → Gone (pop m flash i c (λ v c₁. indBrk i v (addSp 4 c₁)))
+  pc-out c = loaded-out (loadCard m flash i B32 false (c .sp) c) _ (λ v c₁. looked-out i v (addSp 4 c₁))
+
+  pops-out : (f : Card → After) → ((c : Card) → Gone (f c)) → (rs : List ℕ) (c : Card) → Gone (popAll m flash i rs c f)
+  unfolding popAll
+  pops-out f h [] c = h c
+  pops-out f h (r ∷ rs) c = loaded-out (loadCard m flash i B32 false (c .sp) c) _ (λ v c₁. pops-out f h rs (addSp 4 (setReg r v c₁)))
+
+-- a kind that does not jump
+no-jump : {A : Type 0} → false ≡ true → A
+no-jump e = absurd (let z : _≡_ {A = ℕ} 0 1 = cc in omega arith)
 
 module _ (m : Memory) (flash : List ℕ) (i next : ℕ) (c : Card) where
   jump-out : (f : Fast) → mayJump f ≡ true → Gone (opStep m flash i next f c)
   unfolding opStep Gone
-  jump-out Nop e = absurd (let z : _≡_ {A = ℕ} 0 1 = cc in omega arith)
-  jump-out (MovI d v) e = absurd (let z : _≡_ {A = ℕ} 0 1 = cc in omega arith)
-  jump-out (Mov d s) e = absurd (let z : _≡_ {A = ℕ} 0 1 = cc in omega arith)
-  jump-out (AddRI d s v) e = absurd (let z : _≡_ {A = ℕ} 0 1 = cc in omega arith)
-  jump-out (ShlI d s n) e = absurd (let z : _≡_ {A = ℕ} 0 1 = cc in omega arith)
-  jump-out (SarI d s n) e = absurd (let z : _≡_ {A = ℕ} 0 1 = cc in omega arith)
-  jump-out (Alu3 d a b op) e = absurd (let z : _≡_ {A = ℕ} 0 1 = cc in omega arith)
-  jump-out (Alu3I d a v op) e = absurd (let z : _≡_ {A = ℕ} 0 1 = cc in omega arith)
-  jump-out (Alu2 d b op) e = absurd (let z : _≡_ {A = ℕ} 0 1 = cc in omega arith)
-  jump-out (Alu2I d v op) e = absurd (let z : _≡_ {A = ℕ} 0 1 = cc in omega arith)
-  jump-out (A4 d s op rk rv) e = absurd (let z : _≡_ {A = ℕ} 0 1 = cc in omega arith)
-  jump-out (Ext d s part signed) e = absurd (let z : _≡_ {A = ℕ} 0 1 = cc in omega arith)
-  jump-out (MinMax d a b kind) e = absurd (let z : _≡_ {A = ℕ} 0 1 = cc in omega arith)
-  jump-out (Un d s k) e = absurd (let z : _≡_ {A = ℕ} 0 1 = cc in omega arith)
-  jump-out (Div d a b k) e = absurd (let z : _≡_ {A = ℕ} 0 1 = cc in omega arith)
-  jump-out (Mov2 dh dl sh sl) e = absurd (let z : _≡_ {A = ℕ} 0 1 = cc in omega arith)
-  jump-out (Mov2I dh dl v) e = absurd (let z : _≡_ {A = ℕ} 0 1 = cc in omega arith)
-  jump-out (BitExt d s p l signed) e = absurd (let z : _≡_ {A = ℕ} 0 1 = cc in omega arith)
-  jump-out (BitIns d s p l) e = absurd (let z : _≡_ {A = ℕ} 0 1 = cc in omega arith)
-  jump-out (SpAdd v) e = absurd (let z : _≡_ {A = ℕ} 0 1 = cc in omega arith)
-  jump-out (RFromSp d v) e = absurd (let z : _≡_ {A = ℕ} 0 1 = cc in omega arith)
-  jump-out (Ld d b o w signed) e = absurd (let z : _≡_ {A = ℕ} 0 1 = cc in omega arith)
-  jump-out (St s b o w) e = absurd (let z : _≡_ {A = ℕ} 0 1 = cc in omega arith)
-  jump-out (LdIdx d b x sh w signed) e = absurd (let z : _≡_ {A = ℕ} 0 1 = cc in omega arith)
-  jump-out (StIdx s b x sh w) e = absurd (let z : _≡_ {A = ℕ} 0 1 = cc in omega arith)
-  jump-out (LdPost d b w signed inc) e = absurd (let z : _≡_ {A = ℕ} 0 1 = cc in omega arith)
-  jump-out (StPost s b w inc) e = absurd (let z : _≡_ {A = ℕ} 0 1 = cc in omega arith)
-  jump-out (Rmw b w op o v) e = absurd (let z : _≡_ {A = ℕ} 0 1 = cc in omega arith)
-  jump-out PushRet e = absurd (let z : _≡_ {A = ℕ} 0 1 = cc in omega arith)
-  jump-out PopRets e = absurd (let z : _≡_ {A = ℕ} 0 1 = cc in omega arith)
+  jump-out Nop e = no-jump e
+  jump-out (MovI d v) e = no-jump e
+  jump-out (Mov d s) e = no-jump e
+  jump-out (AddRI d s v) e = no-jump e
+  jump-out (ShlI d s n) e = no-jump e
+  jump-out (SarI d s n) e = no-jump e
+  jump-out (Alu3 d a b op) e = no-jump e
+  jump-out (Alu3I d a v op) e = no-jump e
+  jump-out (Alu2 d b op) e = no-jump e
+  jump-out (Alu2I d v op) e = no-jump e
+  jump-out (A4 d s op rk rv) e = no-jump e
+  jump-out (Ext d s part signed) e = no-jump e
+  jump-out (MinMax d a b kind) e = no-jump e
+  jump-out (Un d s k) e = no-jump e
+  jump-out (Div d a b k) e = no-jump e
+  jump-out (Mov2 dh dl sh sl) e = no-jump e
+  jump-out (Mov2I dh dl v) e = no-jump e
+  jump-out (BitExt d s p l signed) e = no-jump e
+  jump-out (BitIns d s p l) e = no-jump e
+  jump-out (SpAdd v) e = no-jump e
+  jump-out (RFromSp d v) e = no-jump e
+  jump-out (Ld d b o w signed) e = no-jump e
+  jump-out (St s b o w) e = no-jump e
+  jump-out (LdIdx d b x sh w signed) e = no-jump e
+  jump-out (StIdx s b x sh w) e = no-jump e
+  jump-out (LdPost d b w signed inc) e = no-jump e
+  jump-out (StPost s b w inc) e = no-jump e
+  jump-out (Rmw b w op o v) e = no-jump e
+  jump-out PushRet e = no-jump e
+  jump-out PopRets e = no-jump e
   jump-out (BrI a v q target) e = fork-out (holds q (reg c a) v) i next target c
   jump-out (BrR a b q target) e = fork-out (holds q (reg c a) (reg c b)) i next target c
   jump-out (DecBr r q v target) e = fork-out (holds q (minus (reg c r) 1) v) i next target (setReg r (minus (reg c r) 1) c)
@@ -155,9 +176,15 @@ module _ (m : Memory) (flash : List ℕ) (i next : ℕ) (c : Card) where
   jump-out Rts e = tt
   jump-out (GotoR r) e = tt
   jump-out (CallR r) e = tt
-  jump-out PopRet e = popped-out (loadCard m flash i B32 false (c .sp) c) i
+  jump-out PopRet e = pc-out m flash i c
+  jump-out (BlockMove r mask u post down) e = no-jump e
+  jump-out (PushRets n) e = no-jump e
+  jump-out (PopPc n) e = pops-out m flash i _ (pc-out m flash i) (saved n) c
+  jump-out (LdPair p b o) e = no-jump e
+  jump-out (StPair p b o) e = no-jump e
 
-jump-leaves : (b : Block) (flash : List ℕ) (o : BOp) (i next : ℕ) (c d : Card) → mayJump (o .fast) ≡ true → checked o i next (opStep (b .memory) flash i next (o .fast) c) ≡ on d → ⊥
+jump-leaves : (b : Block) (flash : List ℕ) (o : BOp) (i next : ℕ) (c d : Card) → mayJump (o .fast) ≡ true
+    → checked o i next (opStep (b .memory) flash i next (o .fast) c) ≡ on d → ⊥
 unfolding Gone
 jump-leaves b flash o i next c d u e = by (opStep (b .memory) flash i next (o .fast) c) (jump-out (b .memory) flash i next c (o .fast) u) e
   where
@@ -218,7 +245,8 @@ module _ {b : Block} {h : Helpers} {s0 : State} (B : Body b h s0) (C : Checked b
       )
 
   -- off the end of the block
-  end-leaves : (i pc : ℕ) → i < 4096 → pc < 2 ^ 32 → (rc : RegCache) (a : Abs) (p : ℕ) (s : State) → Sim b s0 rc a s → Leaving rc (Step.chain pc i ∷ []) p s (chains 0) (arrive pc i (a .c))
+  end-leaves : (i pc : ℕ) → i < 4096 → pc < 2 ^ 32 → (rc : RegCache) (a : Abs) (p : ℕ) (s : State) → Sim b s0 rc a s
+      → Leaving rc (Step.chain pc i ∷ []) p s (chains 0) (arrive pc i (a .c))
   unfolding mrun mstep StepFits
   end-leaves i pc hi hp rc a p s j =
       let x = steps-met B C base (Step.chain pc i ∷ []) ((hp, hi), tt) (tt, tt) rc a in
@@ -231,7 +259,8 @@ module _ {b : Block} {h : Helpers} {s0 : State} (B : Body b h s0) (C : Checked b
   abbrev m : Memory
   m = b .memory
 
-  ops-leave : (os : List BOp) (i pc : ℕ) → OpsFit os → NoneAfterJump os → i + length os ≤ 32 → pc < 2 ^ 32 → (rc : RegCache) (a : Abs) (w : Way) (d : Card) → opsFrom m flash i pc os (a .c) ≡ leaves w d
+  ops-leave : (os : List BOp) (i pc : ℕ) → OpsFit os → NoneAfterJump os → i + length os ≤ 32 → pc < 2 ^ 32
+      → (rc : RegCache) (a : Abs) (w : Way) (d : Card) → opsFrom m flash i pc os (a .c) ≡ leaves w d
       → (p : ℕ) (s : State) → Sim b s0 rc a s → Leaving rc (opsSteps i pc os) p s w d
   unfolding opsFrom opsSteps
   ops-leave [] i pc f n l hp rc a w d e p s j =
@@ -240,36 +269,49 @@ module _ {b : Block} {h : Helpers} {s0 : State} (B : Body b h s0) (C : Checked b
       subst (λ v. Leaving rc (Step.chain pc i ∷ []) p s v d) ew
       (subst (λ c. Leaving rc (Step.chain pc i ∷ []) p s (chains 0) c) ed (end-leaves i pc (omega arith) hp rc a p s j))
   ops-leave (o ∷ os) i pc f n l hp rc a w d e p s j =
-      let next : ℕ = behind pc o in
       let hn : next < 2 ^ 32 = mod-lt (pc + o .len) (omega arith) in
-      by (checked o i next (opStep m flash i next (o .fast) (a .c))) (mrun b flash lim (opSteps o i next) a) refl
+      by (checked o i next (opStep m flash i next (o .fast) (a .c))) (mrun b flash lim these a) refl
       (op-agrees b flash lim i next a (j .kept .small) o (f .0))
-      (steps-met B C base (opSteps o i next) (op-fits i next (omega arith) hn o (f .0)) (op-known o i next) rc a) e
-      (λ a₁ d₁ e₁ q t j₁. ops-leave os (i + 1) next (f .1) (tail-jumps o os n) (omega arith) hn (cacheAfter rc (opSteps o i next)) a₁ w d₁ e₁ q t j₁)
+      (steps-met B C base these (op-fits i next (omega arith) hn o (f .0)) (op-known o i next) rc a) e
+      (λ a₁ d₁ e₁ q t j₁. ops-leave os (i + 1) next (f .1) (tail-jumps o os n) (omega arith) hn
+      (cacheAfter rc these) a₁ w d₁ e₁ q t j₁)
     where
-      rest : List Step
-      rest = pick (mayJump (o .fast)) [] (opsSteps (i + 1) (behind pc o) os)
+      next : ℕ
+      next = behind pc o
 
-      by : (r : After) (t : Then) → checked o i (behind pc o) (opStep m flash i (behind pc o) (o .fast) (a .c)) ≡ r → Agrees r t
-          → StepsMet B C base rc a (opSteps o i (behind pc o)) t
-          → thenCard r (arrive pc i (a .c)) (λ c₁. opsFrom m flash (suc i) (behind pc o) os c₁) ≡ leaves w d
-          → ((a₁ : Abs) (d₁ : Card) → opsFrom m flash (i + 1) (behind pc o) os (a₁ .c) ≡ leaves w d₁ → (q : ℕ) (u : State) → Sim b s0 (cacheAfter rc (opSteps o i (behind pc o))) a₁ u → Leaving (cacheAfter rc (opSteps o i (behind pc o))) (opsSteps (i + 1) (behind pc o) os) q u w d₁)
-          → Leaving rc (opSteps o i (behind pc o) ++ rest) p s w d
+      these : List Step
+      these = opSteps o i next
+
+      those : List Step
+      those = opsSteps (i + 1) next os
+
+      rest : List Step
+      rest = pick (mayJump (o .fast)) [] those
+
+      by : (r : After) (t : Then) → checked o i next (opStep m flash i next (o .fast) (a .c)) ≡ r → Agrees r t
+          → StepsMet B C base rc a these t
+          → thenCard r (arrive pc i (a .c)) (λ c₁. opsFrom m flash (suc i) next os c₁) ≡ leaves w d
+          → ((a₁ : Abs) (d₁ : Card) → opsFrom m flash (i + 1) next os (a₁ .c) ≡ leaves w d₁
+          → (q : ℕ) (u : State) → Sim b s0 (cacheAfter rc these) a₁ u → Leaving (cacheAfter rc these) those q u w d₁)
+          → Leaving rc (these ++ rest) p s w d
       by (on c) (go a₁) er ag x ec k = on-case (mayJump (o .fast)) refl
         where
-          on-case : (u : Bool) → mayJump (o .fast) ≡ u → Leaving rc (opSteps o i (behind pc o) ++ pick u [] (opsSteps (i + 1) (behind pc o) os)) p s w d
-          on-case true eu = absurd (jump-leaves b flash o i (behind pc o) (a .c) c eu er)
-          on-case false eu =
-              leave-on rc a a₁ (opSteps o i (behind pc o)) (opsSteps (i + 1) (behind pc o) os) w d x
-              (λ q u ju. k a₁ d (subst (λ c₂. opsFrom m flash (i + 1) (behind pc o) os c₂ ≡ leaves w d) (sym ag) (subst (λ n₁. opsFrom m flash n₁ (behind pc o) os c ≡ leaves w d) (sym (add-one i)) ec)) q u ju) p s j
+          behind-this : opsFrom m flash (i + 1) next os (a₁ .c) ≡ leaves w d
+          behind-this =
+              subst (λ c₂. opsFrom m flash (i + 1) next os c₂ ≡ leaves w d) (sym ag)
+              (subst (λ n₁. opsFrom m flash n₁ next os c ≡ leaves w d) (sym (add-one i)) ec)
+
+          on-case : (u : Bool) → mayJump (o .fast) ≡ u → Leaving rc (these ++ pick u [] those) p s w d
+          on-case true eu = absurd (jump-leaves b flash o i next (a .c) c eu er)
+          on-case false eu = leave-on rc a a₁ these those w d x (λ q u ju. k a₁ d behind-this q u ju) p s j
       by (on c) (off v e₂) er ag x ec k = absurd ag
       by (on c) void er ag x ec k = absurd ag
       by (out v c) (go a₁) er ag x ec k = absurd ag
       by (out v c) (off v₁ c₁) er ag x ec k =
           let ew : v₁ ≡ w = ag .0 ∙ (cc) in
           let ed : c₁ ≡ d = ag .1 ∙ (cc) in
-          subst (λ y. Leaving rc (opSteps o i (behind pc o) ++ rest) p s y d) ew
-          (subst (λ y. Leaving rc (opSteps o i (behind pc o) ++ rest) p s v₁ y) ed (leave-out rc a (opSteps o i (behind pc o)) rest v₁ c₁ x p s j))
+          subst (λ y. Leaving rc (these ++ rest) p s y d) ew
+          (subst (λ y. Leaving rc (these ++ rest) p s v₁ y) ed (leave-out rc a these rest v₁ c₁ x p s j))
       by (out v c) void er ag x ec k = absurd ag
       by starved t er ag x ec k = absurd (let z : _≡_ {A = ℕ} 0 1 = cc in omega arith)
 

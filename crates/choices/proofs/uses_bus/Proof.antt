@@ -1,13 +1,11 @@
 use borrow.Author.Needs.{needs}
-use borrow.Author.Tests.{lt-leb, le-leb}
+use mathlib.Core.Path.{ap, _∙_}
+use Rattle.block.specs.Block.{onBus}
 use Rattle.choices.proofs.uses_bus.Statement.{statement}
 use Rattle.choices.proofs.uses_bus.Tie as tie
 
 returns : tie.Need-returns
-returns c = rw (← c .before .kind .ensures, lt-leb _ _ (c .if1 .taken))
-
-returns-2 : tie.Need-returns-2
-returns-2 c = rw (← c .before .kind .ensures, le-leb _ _ (c .if1 .left))
+returns c = c .on-bus .ensures ∙ ap onBus (c .before .kind .ensures)
 
 pub uses-bus-spec : {M : Type 1} → statement M
-uses-bus-spec = tie.close (tie.spec (λ c κs. search needs) returns returns-2)
+uses-bus-spec = tie.close (tie.spec (λ c κs. search needs) (λ c κs. search needs) returns)

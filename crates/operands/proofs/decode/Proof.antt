@@ -2,33 +2,42 @@
 use borrow.Author.Needs.{needs}
 use Rattle.operands.proofs.decode.Statement.{statement}
 use Rattle.operands.proofs.decode.Tie as tie
-use Prim.Native.Nat.{ℕ}
-use mathlib.Core.Path.{_≡_, sym, ap, ap₂, _∙_}
-use mathlib.Core.Bool.{not}
+use Prim.Native.Nat.{ℕ, _<_}
+use mathlib.Core.Path.{_≡_, sym, ap, _∙_}
+use mathlib.Core.Bool.{Bool, false, not}
 use mathlib.Core.List.{List}
 use native.Mathlib.Omega.{arith}
 use borrow.Author.Tests.{lt-ltb, le-ltb, le-leb, lt-leb, eq-eqb, ne-eqb}
 use lib.ListN.{length}
-use Rattle.block.specs.declared.Fast.{Fast}
-use Rattle.operands.specs.declared.rows.Row.{Row}
+use Rattle.block.specs.declared.Memory.{Memory}
+use Rattle.block.specs.Block.{moved}
+use Rattle.operands.specs.declared.rows.Shape.{Shape}
 use Rattle.operands.specs.Kinds.{kindAt, fastOf}
-use Rattle.operands.specs.Rows.{rowOf}
-use Rattle.operands.specs.Operation.{operandsFit, operands, contentsFault, operationOf}
-use Rattle.operands.proofs.Table.{at-most-six, fit-all}
+use Rattle.operands.specs.Rows.{shapeOf}
+use Rattle.operands.specs.Operation.{operandsFit, operands, tooLong, contentsFault, operationOf}
+use Rattle.operands.proofs.Table.{at-most-six, fit-all, none-moved}
 
--- what `row_of` answers of a payload's operands
-module _ (k : ℕ) (p : List ℕ) {xs : List ℕ} {r : Row} (given : xs ≡ operands p) (e : r ≡ rowOf k xs) where
-  row : r ≡ rowOf k (operands p)
-  row = e ∙ ap (rowOf k) given
+-- what `shape_of` answers of a payload's operands
+module _ (k : ℕ) (p : List ℕ) {xs : List ℕ} {r : Shape} (given : xs ≡ operands p) (e : r ≡ shapeOf k xs) where
+  shape : r ≡ shapeOf k (operands p)
+  shape = e ∙ ap (shapeOf k) given
 
   count-is : r .count ≡ length (kindAt k .operands)
-  count-is = ap (λ (w : Row). w .count) row
+  count-is = ap (λ (w : Shape). w .count) shape
 
   fit-is : r .fit ≡ operandsFit (kindAt k .operands) p 0
-  fit-is = ap (λ (w : Row). w .fit) row ∙ fit-all k p
+  fit-is = ap (λ (w : Shape). w .fit) shape ∙ fit-all k p
 
-  fast-is : r .fast ≡ fastOf k (operands p)
-  fast-is = ap (λ (w : Row). w .fast) row
+-- what `moved` and `too_long` answer of them
+group-is : (m : Memory) (k : ℕ) (p : List ℕ) {xs : List ℕ} {n : ℕ} {t : Bool}
+    → xs ≡ operands p → n ≡ moved (fastOf k xs) → t ≡ tooLong m n
+    → tooLong m (moved (fastOf k (operands p))) ≡ t
+group-is m k p given e f = sym (f ∙ ap (tooLong m) (e ∙ ap (λ (ys : List ℕ). moved (fastOf k ys)) given))
+
+-- a kind below 40 is no group
+none-long : (m : Memory) (k : ℕ) (p : List ℕ) → k < 40 → tooLong m (moved (fastOf k (operands p))) ≡ false
+none-long m k p h =
+    rw (← none-moved k (operands p) h, le-ltb (m .«ram_len») 0 (omega arith), le-ltb (m .«xip_len») 0 (omega arith))
 
 returns : tie.Need-returns
 unfolding contentsFault
@@ -43,7 +52,7 @@ mul-if3 c =
     let q = c .before in
     let b = q .before .before .before in
     let payload = b .before .before .before .args .p .now in
-    let n = count-is (b .byte .result) payload (q .before .operands-of .ensures) (q .row-of .ensures) in
+    let n = count-is (b .byte .result) payload (q .before .operands-of .ensures) (q .shape-of .ensures) in
     omega (arith, n, at-most-six (b .byte .result))
 
 add-if3 : tie.Need-add-if3
@@ -51,7 +60,7 @@ add-if3 c =
     let q = c .before in
     let b = q .before .before .before in
     let payload = b .before .before .before .args .p .now in
-    let n = count-is (b .byte .result) payload (q .before .operands-of .ensures) (q .row-of .ensures) in
+    let n = count-is (b .byte .result) payload (q .before .operands-of .ensures) (q .shape-of .ensures) in
     omega (arith, n, at-most-six (b .byte .result))
 
 returns-3 : tie.Need-returns-3
@@ -60,7 +69,7 @@ returns-3 c =
     let q = c .before .before in
     let b = q .before .before .before in
     let payload = b .before .before .before .args .p .now in
-    let n = count-is (b .byte .result) payload (q .before .operands-of .ensures) (q .row-of .ensures) in
+    let n = count-is (b .byte .result) payload (q .before .operands-of .ensures) (q .shape-of .ensures) in
     rw (
       le-ltb _ _ (b .before .if1 .left),
       ← b .byte .ensures,
@@ -75,7 +84,7 @@ returns-4 c =
     let q = c .before .before .before .before in
     let b = q .before .before .before in
     let payload = b .before .before .before .args .p .now in
-    let n = count-is (b .byte .result) payload (q .before .operands-of .ensures) (q .row-of .ensures) in
+    let n = count-is (b .byte .result) payload (q .before .operands-of .ensures) (q .shape-of .ensures) in
     rw (
       le-ltb _ _ (b .before .if1 .left),
       ← b .byte .ensures,
@@ -92,8 +101,8 @@ returns-5 c =
     let q = c .before .before .before .before .before .before in
     let b = q .before .before .before in
     let payload = b .before .before .before .args .p .now in
-    let n = count-is (b .byte .result) payload (q .before .operands-of .ensures) (q .row-of .ensures) in
-    let f = ap not (sym (fit-is (b .byte .result) payload (q .before .operands-of .ensures) (q .row-of .ensures))) ∙ c .if5 .taken in
+    let n = count-is (b .byte .result) payload (q .before .operands-of .ensures) (q .shape-of .ensures) in
+    let f = ap not (sym (fit-is (b .byte .result) payload (q .before .operands-of .ensures) (q .shape-of .ensures))) ∙ c .if5 .taken in
     rw (
       le-ltb _ _ (b .before .if1 .left),
       ← b .byte .ensures,
@@ -108,23 +117,80 @@ returns-5 c =
 returns-6 : tie.Need-returns-6
 unfolding contentsFault operationOf
 returns-6 c =
-    let q = c .before .before .before .before .before .before .before in
+    let c₅ = c .before .before .before in
+    let q = c₅ .before .before .before .before .before .before in
     let b = q .before .before .before in
-    let payload = b .before .before .before .args .p .now in
-    let n = count-is (b .byte .result) payload (q .before .operands-of .ensures) (q .row-of .ensures) in
-    let f = ap not (sym (fit-is (b .byte .result) payload (q .before .operands-of .ensures) (q .row-of .ensures))) ∙ c .before .if5 .left in
-    let o = fast-is (b .byte .result) payload (q .before .operands-of .ensures) (q .row-of .ensures) in
+    let k = b .byte .result in
+    let a = b .before .before .before .args in
+    let given = q .before .operands-of .ensures in
+    let n = count-is k (a .p .now) given (q .shape-of .ensures) in
+    let f = ap not (sym (fit-is k (a .p .now) given (q .shape-of .ensures))) ∙ c₅ .if5 .left in
+    let g = none-long (a .m) k (a .p .now) (c .if6 .taken) in
+    let o = c .before .before .fast-of .ensures ∙ ap (fastOf k) given in
     rw (
       le-ltb _ _ (b .before .if1 .left),
       ← b .byte .ensures,
       lt-leb _ _ (q .before .before .if2 .left),
       f,
+      g,
       ← n,
-      eq-eqb _ _ (c .before .before .before .before .before .if3 .left),
-      ← c .before .before .before .before .byte2 .ensures,
-      le-ltb _ _ (c .before .before .before .if4 .left),
+      eq-eqb _ _ (c₅ .before .before .before .before .if3 .left),
+      ← c₅ .before .before .before .byte2 .ensures,
+      le-ltb _ _ (c₅ .before .before .if4 .left),
       o,
-      c .byte3 .ensures,
+      c .before .byte3 .ensures,
+    )
+
+returns-7 : tie.Need-returns-7
+unfolding contentsFault
+returns-7 c =
+    let c₅ = c .before .before .before .before .before .before in
+    let q = c₅ .before .before .before .before .before .before in
+    let b = q .before .before .before in
+    let k = b .byte .result in
+    let a = b .before .before .before .args in
+    let given = q .before .operands-of .ensures in
+    let n = count-is k (a .p .now) given (q .shape-of .ensures) in
+    let f = ap not (sym (fit-is k (a .p .now) given (q .shape-of .ensures))) ∙ c₅ .if5 .left in
+    let g = group-is (a .m) k (a .p .now) given (c .before .before .moved .ensures) (c .before .too-long .ensures) ∙ c .if7 .taken in
+    rw (
+      le-ltb _ _ (b .before .if1 .left),
+      ← b .byte .ensures,
+      lt-leb _ _ (q .before .before .if2 .left),
+      f,
+      g,
+      ← n,
+      eq-eqb _ _ (c₅ .before .before .before .before .if3 .left),
+      ← c₅ .before .before .before .byte2 .ensures,
+      le-ltb _ _ (c₅ .before .before .if4 .left),
+    )
+
+returns-8 : tie.Need-returns-8
+unfolding contentsFault operationOf
+returns-8 c =
+    let c₆ = c .before .before .before in
+    let c₅ = c₆ .before .before .before in
+    let q = c₅ .before .before .before .before .before .before in
+    let b = q .before .before .before in
+    let k = b .byte .result in
+    let a = b .before .before .before .args in
+    let given = q .before .operands-of .ensures in
+    let n = count-is k (a .p .now) given (q .shape-of .ensures) in
+    let f = ap not (sym (fit-is k (a .p .now) given (q .shape-of .ensures))) ∙ c₅ .if5 .left in
+    let g = group-is (a .m) k (a .p .now) given (c .before .before .moved .ensures) (c .before .too-long .ensures) ∙ c .if7 .left in
+    let o = c₆ .before .before .fast-of .ensures ∙ ap (fastOf k) given in
+    rw (
+      le-ltb _ _ (b .before .if1 .left),
+      ← b .byte .ensures,
+      lt-leb _ _ (q .before .before .if2 .left),
+      f,
+      g,
+      ← n,
+      eq-eqb _ _ (c₅ .before .before .before .before .if3 .left),
+      ← c₅ .before .before .before .byte2 .ensures,
+      le-ltb _ _ (c₅ .before .before .if4 .left),
+      o,
+      c₆ .before .byte3 .ensures,
     )
 
 pub decode-spec : {M : Type 1} → statement M
@@ -143,4 +209,9 @@ decode-spec =
     returns-4
     returns-5
     (λ c κs. search needs)
-    returns-6)
+    (λ c κs. search needs)
+    returns-6
+    (λ c κs. search needs)
+    (λ c κs. search needs)
+    returns-7
+    returns-8)

@@ -64,11 +64,16 @@ get32-requires c κs = search needs
 returns : tie.Need-returns
 unfolding header
 returns c =
+    let a = c .before .before .before .before .before .before .before .before .before .before .before in
     rw (
-      c .before .before .before .before .before .before .layout-of .ensures ∙ ap layoutOf (payload-part (c .before .before .before .before .before .before .before .before .before .before .before .args .s .now) 0 20 (field-whole _ 0 1 20 (c .before .before .before .before .before .before .before .before .before .before .before .pre .0))),
-      c .before .before .before .before .memory-of .ensures ∙ ap memoryOf (payload-part (c .before .before .before .before .before .before .before .before .before .before .before .args .s .now) 23 17 (field-whole _ 23 2 17 (c .before .before .before .before .before .before .before .before .before .before .before .pre .1))),
-      c .before .before .addresses-of .ensures ∙ ap addressesOf (payload-part (c .before .before .before .before .before .before .before .before .before .before .before .args .s .now) 43 24 (field-whole _ 43 3 24 (c .before .before .before .before .before .before .before .before .before .before .before .pre .2))),
-      c .get32 .ensures ∙ ap (λ (q : List ℕ). num32 q 0) (payload-part (c .before .before .before .before .before .before .before .before .before .before .before .args .s .now) 70 4 (field-whole _ 70 4 4 (c .before .before .before .before .before .before .before .before .before .before .before .pre .3))),
+      c .before .before .before .before .before .before .layout-of .ensures
+          ∙ ap layoutOf (payload-part (a .args .s .now) 0 20 (field-whole _ 0 1 20 (a .pre .0))),
+      c .before .before .before .before .memory-of .ensures
+          ∙ ap memoryOf (payload-part (a .args .s .now) 23 17 (field-whole _ 23 2 17 (a .pre .1))),
+      c .before .before .addresses-of .ensures
+          ∙ ap addressesOf (payload-part (a .args .s .now) 43 24 (field-whole _ 43 3 24 (a .pre .2))),
+      c .get32 .ensures
+          ∙ ap (λ (q : List ℕ). num32 q 0) (payload-part (a .args .s .now) 70 4 (field-whole _ 70 4 4 (a .pre .3))),
       c .before .before .before .before .before .before .before .before .before .no-block .ensures,
     )
 

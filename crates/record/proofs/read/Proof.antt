@@ -29,10 +29,11 @@ refused-requires c κs = search needs
 returns : tie.Need-returns
 unfolding reading
 returns c =
-    promised
-    (c .before .before .before .before .args .s .now)
-    (λ i. omega (arith, c .before .before .before .shared-slice-known .given i))
-    (c .refused .ensures ∙ refuse _ 0 _ (c .before .before .layout-field .ensures) (c .before .if1 .taken))
+    let c₁ = c .before in
+    let k = c₁ .before .before in
+    promised (k .before .args .s .now) (λ i. omega (arith, k .shared-slice-known .given i))
+    (c .refused .ensures
+    ∙ refuse _ 0 _ (c₁ .before .layout-field .ensures) (c₁ .if1 .taken))
 
 memory-field-requires : tie.Need-memory-field-requires
 memory-field-requires c κs = omega (arith, layout-whole _ (sym (c .before .layout-field .ensures) ∙ c .if1 .left) .1 .inside)
@@ -43,12 +44,13 @@ refused-requires-2 c κs = search needs
 returns-2 : tie.Need-returns-2
 unfolding reading
 returns-2 c =
-    promised
-    (c .before .before .before .before .before .before .args .s .now)
-    (λ i. omega (arith, c .before .before .before .before .before .shared-slice-known .given i))
+    let c₂ = c .before in
+    let c₁ = c₂ .before .before in
+    let k = c₁ .before .before in
+    promised (k .before .args .s .now) (λ i. omega (arith, k .shared-slice-known .given i))
     (c .refused2 .ensures
-    ∙ refuse _ 23 _ (c .before .before .memory-field .ensures) (c .before .if2 .taken)
-    ∙ pass _ 0 _ (c .before .before .before .before .layout-field .ensures) (c .before .before .before .if1 .left))
+    ∙ refuse _ 23 _ (c₂ .before .memory-field .ensures) (c₂ .if2 .taken)
+    ∙ pass _ 0 _ (c₁ .before .layout-field .ensures) (c₁ .if1 .left))
 
 addresses-field-requires : tie.Need-addresses-field-requires
 addresses-field-requires c κs = omega (arith, memory-whole _ (sym (c .before .memory-field .ensures) ∙ c .if2 .left) .1 .inside)
@@ -59,13 +61,15 @@ refused-requires-3 c κs = search needs
 returns-3 : tie.Need-returns-3
 unfolding reading
 returns-3 c =
-    promised
-    (c .before .before .before .before .before .before .before .before .args .s .now)
-    (λ i. omega (arith, c .before .before .before .before .before .before .before .shared-slice-known .given i))
+    let c₃ = c .before in
+    let c₂ = c₃ .before .before in
+    let c₁ = c₂ .before .before in
+    let k = c₁ .before .before in
+    promised (k .before .args .s .now) (λ i. omega (arith, k .shared-slice-known .given i))
     (c .refused3 .ensures
-    ∙ refuse _ 43 _ (c .before .before .addresses-field .ensures) (c .before .if3 .taken)
-    ∙ pass _ 23 _ (c .before .before .before .before .memory-field .ensures) (c .before .before .before .if2 .left)
-    ∙ pass _ 0 _ (c .before .before .before .before .before .before .layout-field .ensures) (c .before .before .before .before .before .if1 .left))
+    ∙ refuse _ 43 _ (c₃ .before .addresses-field .ensures) (c₃ .if3 .taken)
+    ∙ pass _ 23 _ (c₂ .before .memory-field .ensures) (c₂ .if2 .left)
+    ∙ pass _ 0 _ (c₁ .before .layout-field .ensures) (c₁ .if1 .left))
 
 start-field-requires : tie.Need-start-field-requires
 start-field-requires c κs = omega (arith, addresses-whole _ (sym (c .before .addresses-field .ensures) ∙ c .if3 .left) .1 .inside)
@@ -76,22 +80,28 @@ refused-requires-4 c κs = search needs
 returns-4 : tie.Need-returns-4
 unfolding reading
 returns-4 c =
-    promised
-    (c .before .before .before .before .before .before .before .before .before .before .args .s .now)
-    (λ i. omega (arith, c .before .before .before .before .before .before .before .before .before .shared-slice-known .given i))
+    let c₄ = c .before in
+    let c₃ = c₄ .before .before in
+    let c₂ = c₃ .before .before in
+    let c₁ = c₂ .before .before in
+    let k = c₁ .before .before in
+    promised (k .before .args .s .now) (λ i. omega (arith, k .shared-slice-known .given i))
     (c .refused4 .ensures
-    ∙ refuse _ 70 _ (c .before .before .start-field .ensures) (c .before .if4 .taken)
-    ∙ pass _ 43 _ (c .before .before .before .before .addresses-field .ensures) (c .before .before .before .if3 .left)
-    ∙ pass _ 23 _ (c .before .before .before .before .before .before .memory-field .ensures) (c .before .before .before .before .before .if2 .left)
-    ∙ pass _ 0 _ (c .before .before .before .before .before .before .before .before .layout-field .ensures) (c .before .before .before .before .before .before .before .if1 .left))
+    ∙ refuse _ 70 _ (c₄ .before .start-field .ensures) (c₄ .if4 .taken)
+    ∙ pass _ 43 _ (c₃ .before .addresses-field .ensures) (c₃ .if3 .left)
+    ∙ pass _ 23 _ (c₂ .before .memory-field .ensures) (c₂ .if2 .left)
+    ∙ pass _ 0 _ (c₁ .before .layout-field .ensures) (c₁ .if1 .left))
 
 header-requires : tie.Need-header-requires
-header-requires c κs = (
-  layout-whole _ (sym (c .before .before .before .before .before .before .before .layout-field .ensures) ∙ c .before .before .before .before .before .before .if1 .left) .0,
-  memory-whole _ (sym (c .before .before .before .before .before .memory-field .ensures) ∙ c .before .before .before .before .if2 .left) .0,
-  addresses-whole _ (sym (c .before .before .before .addresses-field .ensures) ∙ c .before .before .if3 .left) .0,
-  start-whole _ (sym (c .before .start-field .ensures) ∙ c .if4 .left) .0,
-)
+header-requires c κs =
+    let c₃ = c .before .before in
+    let c₂ = c₃ .before .before in
+    let c₁ = c₂ .before .before in (
+      layout-whole _ (sym (c₁ .before .layout-field .ensures) ∙ c₁ .if1 .left) .0,
+      memory-whole _ (sym (c₂ .before .memory-field .ensures) ∙ c₂ .if2 .left) .0,
+      addresses-whole _ (sym (c₃ .before .addresses-field .ensures) ∙ c₃ .if3 .left) .0,
+      start-whole _ (sym (c .before .start-field .ensures) ∙ c .if4 .left) .0,
+    )
 
 read-operations-requires : tie.Need-read-operations-requires
 unfolding header
@@ -104,15 +114,19 @@ read-operations-requires c κs = (
 returns-5 : tie.Need-returns-5
 unfolding reading
 returns-5 c =
-    promised
-    (c .before .before .before .before .before .before .before .before .before .before .before .args .s .now)
-    (λ i. omega (arith, c .before .before .before .before .before .before .before .before .before .before .shared-slice-known .given i))
+    let c₄ = c .before .before in
+    let c₃ = c₄ .before .before in
+    let c₂ = c₃ .before .before in
+    let c₁ = c₂ .before .before in
+    let k = c₁ .before .before in
+    let s = k .before .args .s .now in
+    promised s (λ i. omega (arith, k .shared-slice-known .given i))
     (c .read-operations .ensures
-    ∙ ap (λ (b : Block). operations 33 (c .before .before .before .before .before .before .before .before .before .before .before .args .s .now) 77 b) (c .before .header .ensures)
-    ∙ pass _ 70 _ (c .before .before .before .start-field .ensures) (c .before .before .if4 .left)
-    ∙ pass _ 43 _ (c .before .before .before .before .before .addresses-field .ensures) (c .before .before .before .before .if3 .left)
-    ∙ pass _ 23 _ (c .before .before .before .before .before .before .before .memory-field .ensures) (c .before .before .before .before .before .before .if2 .left)
-    ∙ pass _ 0 _ (c .before .before .before .before .before .before .before .before .before .layout-field .ensures) (c .before .before .before .before .before .before .before .before .if1 .left))
+    ∙ ap (λ (b : Block). operations 33 s 77 b) (c .before .header .ensures)
+    ∙ pass _ 70 _ (c₄ .before .start-field .ensures) (c₄ .if4 .left)
+    ∙ pass _ 43 _ (c₃ .before .addresses-field .ensures) (c₃ .if3 .left)
+    ∙ pass _ 23 _ (c₂ .before .memory-field .ensures) (c₂ .if2 .left)
+    ∙ pass _ 0 _ (c₁ .before .layout-field .ensures) (c₁ .if1 .left))
 
 pub read-spec : {M : Type 1} → statement M
 read-spec =

@@ -8,7 +8,8 @@ use mathlib.Core.List.{List}
 use native.Mathlib.Omega.{arith}
 use Rattle.operands.specs.Numbers.{byteAt, num16, num32}
 
-four : (s : List ℕ) (i : ℕ) {r : ℕ} → r ≡ byteAt s i + 256 * byteAt s (i + 1) + 65536 * (byteAt s (i + 2) + 256 * byteAt s (i + 3)) → r ≡ num32 s i
+four : (s : List ℕ) (i : ℕ) {r : ℕ} → r ≡ byteAt s i + 256 * byteAt s (i + 1) + 65536 * (byteAt s (i + 2) + 256 * byteAt s (i + 3))
+    → r ≡ num32 s i
 unfolding num16 num32
 four s i e = let h : i + 2 + 1 ≡ i + 3 = omega arith in rw h e
 
@@ -40,7 +41,9 @@ joined-requires : tie.Need-joined-requires
 joined-requires c κs = search needs
 
 returns : tie.Need-returns
-returns c = four (c .before .before .before .before .before .before .before .args .s .now) (c .before .before .before .before .before .before .before .args .i) (c .joined .ensures)
+returns c =
+    let a = c .before .before .before .before .before .before .before .args in
+    four (a .s .now) (a .i) (c .joined .ensures)
 
 get16-requires : tie.Need-get16-requires
 get16-requires c κs = search needs

@@ -30,18 +30,20 @@ sub-if2-2 c = search needs
 
 returns-2 : tie.Need-returns-2
 returns-2 c =
+    let a = c .before .before .before .before .args in
     rw (
-      le-ltb (length (c .before .before .before .before .args .s .now)) (c .before .before .before .before .args .at + 3) (omega arith),
+      le-ltb (length (a .s .now)) (a .at + 3) (omega arith),
       ← c .before .get16 .ensures .0,
-      lt-ltb (length (c .before .before .before .before .args .s .now)) (c .before .before .before .before .args .at + 3 + c .before .get16 .result) (omega arith),
+      lt-ltb (length (a .s .now)) (a .at + 3 + c .before .get16 .result) (omega arith),
     )
 
 returns-3 : tie.Need-returns-3
 returns-3 c =
+    let a = c .before .before .before .before .args in
     rw (
-      le-ltb (length (c .before .before .before .before .args .s .now)) (c .before .before .before .before .args .at + 3) (omega arith),
+      le-ltb (length (a .s .now)) (a .at + 3) (omega arith),
       ← c .before .get16 .ensures .0,
-      le-ltb (length (c .before .before .before .before .args .s .now)) (c .before .before .before .before .args .at + 3 + c .before .get16 .result) (omega arith),
+      le-ltb (length (a .s .now)) (a .at + 3 + c .before .get16 .result) (omega arith),
     )
 
 pub cut-spec : {M : Type 1} → statement M

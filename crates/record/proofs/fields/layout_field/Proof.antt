@@ -23,7 +23,8 @@ part-layout-of-start c = search needs
 
 part-layout-of-end : tie.Need-part-layout-of-end
 part-layout-of-end c =
-    omega (arith, field-whole (c .before .before .before .args .s .now) 0 1 20 (sym (c .before .field-fault .ensures) ∙ c .if1 .left) .inside)
+    let e = sym (c .before .field-fault .ensures) ∙ c .if1 .left in
+    omega (arith, field-whole (c .before .before .before .args .s .now) 0 1 20 e .inside)
 
 layout-of-requires : tie.Need-layout-of-requires
 layout-of-requires c κs = search needs
@@ -35,8 +36,9 @@ returns-2 : tie.Need-returns-2
 unfolding layoutField
 returns-2 c =
     let e = sym (c .before .before .before .before .field-fault .ensures) ∙ c .before .before .before .if1 .left in
+    let part = payload-part (c .before .before .before .before .before .before .args .s .now) 0 20 (field-whole _ 0 1 20 e) in
     c .layout-fault .ensures
-    ∙ ap layoutFault (c .before .layout-of .ensures ∙ ap layoutOf (payload-part (c .before .before .before .before .before .before .args .s .now) 0 20 (field-whole _ 0 1 20 e)))
+    ∙ ap layoutFault (c .before .layout-of .ensures ∙ ap layoutOf part)
     ∙ then-none _ _ e
 
 pub layout-field-spec : {M : Type 1} → statement M

@@ -61,7 +61,8 @@ returns-3 c =
       ← c .before .byte .ensures,
       lt-ltb _ _ (c .if3 .taken),
     )
-    (then-none _ _ (sym x ∙ c .before .before .if2 .left) ∙ then-none _ _ (sym r ∙ c .before .before .before .before .before .before .if1 .left))
+    (then-none _ _ (sym x ∙ c .before .before .if2 .left)
+    ∙ then-none _ _ (sym r ∙ c .before .before .before .before .before .before .if1 .left))
 
 returns-4 : tie.Need-returns-4
 unfolding memoryFault
@@ -77,7 +78,8 @@ returns-4 c =
       ← c .before .byte .ensures,
       le-ltb _ _ (c .if3 .left),
     )
-    (then-none _ _ (sym x ∙ c .before .before .if2 .left) ∙ then-none _ _ (sym r ∙ c .before .before .before .before .before .before .if1 .left))
+    (then-none _ _ (sym x ∙ c .before .before .if2 .left)
+    ∙ then-none _ _ (sym r ∙ c .before .before .before .before .before .before .if1 .left))
 
 pub memory-fault-spec : {M : Type 1} → statement M
 memory-fault-spec =

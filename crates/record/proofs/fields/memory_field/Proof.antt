@@ -23,7 +23,8 @@ part-memory-fault-start c = search needs
 
 part-memory-fault-end : tie.Need-part-memory-fault-end
 part-memory-fault-end c =
-    omega (arith, field-whole (c .before .before .before .args .s .now) 23 2 17 (sym (c .before .field-fault .ensures) ∙ c .if1 .left) .inside)
+    let e = sym (c .before .field-fault .ensures) ∙ c .if1 .left in
+    omega (arith, field-whole (c .before .before .before .args .s .now) 23 2 17 e .inside)
 
 memory-fault-requires : tie.Need-memory-fault-requires
 memory-fault-requires c κs = search needs

@@ -23,7 +23,8 @@ part-get32-start c = search needs
 
 part-get32-end : tie.Need-part-get32-end
 part-get32-end c =
-    omega (arith, field-whole (c .before .before .before .args .s .now) 70 4 4 (sym (c .before .field-fault .ensures) ∙ c .if1 .left) .inside)
+    let e = sym (c .before .field-fault .ensures) ∙ c .if1 .left in
+    omega (arith, field-whole (c .before .before .before .args .s .now) 70 4 4 e .inside)
 
 get32-requires : tie.Need-get32-requires
 get32-requires c κs = search needs
@@ -35,8 +36,9 @@ returns-2 : tie.Need-returns-2
 unfolding startField
 returns-2 c =
     let e = sym (c .before .before .before .before .field-fault .ensures) ∙ c .before .before .before .if1 .left in
+    let part = payload-part (c .before .before .before .before .before .before .args .s .now) 70 4 (field-whole _ 70 4 4 e) in
     c .start-fault .ensures
-    ∙ ap startFault (c .before .get32 .ensures ∙ ap (λ p. num32 p 0) (payload-part (c .before .before .before .before .before .before .args .s .now) 70 4 (field-whole _ 70 4 4 e)))
+    ∙ ap startFault (c .before .get32 .ensures ∙ ap (λ p. num32 p 0) part)
     ∙ then-none _ _ e
 
 pub start-field-spec : {M : Type 1} → statement M

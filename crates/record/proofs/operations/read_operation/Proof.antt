@@ -24,26 +24,25 @@ byte-requires c κs = search needs
 returns-2 : tie.Need-returns-2
 unfolding operationFault
 returns-2 c =
-    let e = sym (c .before .before .before .cut .ensures) ∙ c .before .before .if1 .left in
+    let c₁ = c .before .before in
+    let e = sym (c₁ .before .cut .ensures) ∙ c₁ .if1 .left in
     rw (e, ← c .before .byte .ensures, ne-eqb _ _ (c .if2 .taken))
 
 returns-3 : tie.Need-returns-3
 unfolding operationFault
 returns-3 c =
-    let e = sym (c .before .before .before .before .cut .ensures) ∙ c .before .before .before .if1 .left in
-    rw (e, ← c .before .before .byte .ensures, eq-eqb _ _ (c .before .if2 .left), le-leb _ _ (c .if3 .taken))
+    let c₂ = c .before in
+    let c₁ = c₂ .before .before in
+    let e = sym (c₁ .before .cut .ensures) ∙ c₁ .if1 .left in
+    rw (e, ← c₂ .before .byte .ensures, eq-eqb _ _ (c₂ .if2 .left), le-leb _ _ (c .if3 .taken))
 
 returns-4 : tie.Need-returns-4
 unfolding operationFault
 returns-4 c =
-    let e = sym (c .before .before .before .before .before .cut .ensures) ∙ c .before .before .before .before .if1 .left in
-    rw (
-      e,
-      ← c .before .before .before .byte .ensures,
-      eq-eqb _ _ (c .before .before .if2 .left),
-      lt-leb _ _ (c .before .if3 .left),
-      c .if4 .taken,
-    )
+    let c₂ = c .before .before in
+    let c₁ = c₂ .before .before in
+    let e = sym (c₁ .before .cut .ensures) ∙ c₁ .if1 .left in
+    rw (e, ← c₂ .before .byte .ensures, eq-eqb _ _ (c₂ .if2 .left), lt-leb _ _ (c .before .if3 .left), c .if4 .taken)
 
 add-from : tie.Need-add-from
 add-from c = search needs
@@ -68,8 +67,10 @@ part-decode-start c = search needs
 
 part-decode-end : tie.Need-part-decode-end
 part-decode-end c =
-    let e = sym (c .before .before .before .before .before .before .cut .ensures) ∙ c .before .before .before .before .before .if1 .left in
-    omega (arith, not-cut (c .before .before .before .before .before .before .before .before .args .s .now) (c .before .before .before .before .before .before .before .before .args .at) e .inside, c .get16 .ensures .0)
+    let c₁ = c .before .before .before .before .before in
+    let e = sym (c₁ .before .cut .ensures) ∙ c₁ .if1 .left in
+    let a = c₁ .before .before .before .args in
+    omega (arith, not-cut (a .s .now) (a .at) e .inside, c .get16 .ensures .0)
 
 decode-requires : tie.Need-decode-requires
 decode-requires c κs = search needs
@@ -77,17 +78,15 @@ decode-requires c κs = search needs
 returns-5 : tie.Need-returns-5
 unfolding operationFault
 returns-5 c =
-    let e =
-    sym (c .before .before .before .before .before .before .before .before .cut .ensures)
-    ∙ c .before .before .before .before .before .before .before .if1 .left in
-    rw (
-      e,
-      ← c .before .before .before .before .before .before .byte .ensures,
-      eq-eqb _ _ (c .before .before .before .before .before .if2 .left),
-      lt-leb _ _ (c .before .before .before .before .if3 .left),
-      c .before .before .before .if4 .left,
-    )
-    (c .decode .ensures ∙ ap (λ (q : List ℕ). judged (contentsFault q) (operationOf q)) (payload-range (c .before .before .before .before .before .before .before .before .before .before .args .s .now) (c .before .before .before .before .before .before .before .before .before .before .args .at) _ (c .before .before .get16 .ensures .0)))
+    let g = c .before .before in
+    let c₄ = g .before in
+    let c₂ = c₄ .before .before in
+    let c₁ = c₂ .before .before in
+    let e = sym (c₁ .before .cut .ensures) ∙ c₁ .if1 .left in
+    let a = c₁ .before .before .before .args in
+    let part = payload-range (a .s .now) (a .at) _ (g .get16 .ensures .0) in
+    rw (e, ← c₂ .before .byte .ensures, eq-eqb _ _ (c₂ .if2 .left), lt-leb _ _ (c₄ .before .if3 .left), c₄ .if4 .left)
+    (c .decode .ensures ∙ ap (λ (q : List ℕ). judged (contentsFault (a .m) q) (operationOf q)) part)
 
 pub read-operation-spec : {M : Type 1} → statement M
 read-operation-spec =
