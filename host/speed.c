@@ -3,8 +3,8 @@
  *     speed ROUNDS LENT
  *     speed ROUNDS needed
  *
- * Each round translates every record once, with LENT words lent, at most 32,768, or counts its words. Prints the number of records, how many of
- * them were accepted, the number of their words, and the nanoseconds of a call on average.
+ * Each round translates every record once, with LENT words lent, at most 32,768, or counts its words. Prints the number of records, how
+ * many of them were accepted, the number of their words, and the nanoseconds of a call on average.
  */
 #define _POSIX_C_SOURCE 199309L
 #include <stdio.h>

@@ -2,8 +2,8 @@
 
     python3 host/speed.py tests/oracle ORACLE
 
-tests/oracle draws the records, and ORACLE is the program that its build.py makes (docs/vectors.md), with the options of tools/block_cases.py. Needs
-rt, gcc, objdump and valgrind. Prints Markdown.
+tests/oracle draws the records, and ORACLE is the program that its build.py makes (docs/vectors.md), with the options of
+tools/block_cases.py. Needs rt, gcc, objdump and valgrind. Prints Markdown.
 
 Instructions are callgrind's, of `werfund_translate` and `werfund_words_needed` in the static library and of `main::jit::compile` in the oracle
 with all that they call, on the same records. Times are of a call in a loop, the least of 15 runs that all measurements make by turns. The parts

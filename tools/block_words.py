@@ -2,8 +2,8 @@
 
     python3 tools/block_words.py ORACLE FILE.. > BLOCKS
 
-A FILE has a record a line in hexadecimal, as blocks.py prints it. For each that ORACLE accepts, with more words lent than any block takes, a
-line: the record, and the words, a space between each.
+A FILE has a record a line in hexadecimal, as blocks.py prints it. For each that ORACLE accepts, with more words lent than any block takes,
+a line: the record, and the words, a space between each.
 """
 import sys
 

@@ -33,8 +33,8 @@ FORMS = {0: "", 1: "nn", 2: "nn", 3: "nnn", 4: "nnn", 5: "nnn", 6: "nnno", 7: "n
 TABLES = {"o": OPS, "m": RMW, "q": CONDS, "r": RK, "p": PARTS, "c": CHOICES, "u": UN, "d": DIV}
 
 # what the groups go through, to be unfolded: of the card, and of the block
-WALKS = {"BlockMove": ("loadAll storeAll", "places"), "PushRets": ("pushAll", "upFrom"), "PopPc": ("popAll", "upFrom"), "LdPair": ("loadAll", ""),
-         "StPair": ("storeAll", "")}
+WALKS = {"BlockMove": ("loadAll storeAll", "places"), "PushRets": ("pushAll", "upFrom"), "PopPc": ("popAll", "upFrom"),
+         "LdPair": ("loadAll", ""), "StPair": ("storeAll", "")}
 
 
 def flag(v):

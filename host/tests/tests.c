@@ -207,8 +207,8 @@ static void needs(void) {
     check(counts(NULL, 0, WERFUND_CUT, 0, 0), "an empty record at null is fault 1 at 0, counted");
 }
 
-/* Groups: 32 BlockMoves of 16 loads each, for which 16,384 words are too few; a pair, also where RAM is shorter than it; and a kind that there
- * is not. */
+/* Groups: 32 BlockMoves of 16 loads each, for which 16,384 words are too few; a pair, also where RAM is shorter than it; and a kind that
+ * there is not. */
 static void groups(void) {
     static const uint8_t move[26] = {5, 23, 0, 40, 2, 0, 7, 0, 0, 0, 0xff, 0xff, 0, 0, 0, 0, 0, 0, 1, 0, 0, 0, 0, 0, 0, 0};
     static const uint8_t pair[18] = {5, 15, 0, 43, 2, 0};
@@ -223,7 +223,8 @@ static void groups(void) {
     check(werfund_translate_checked(record, sizeof record, words, 16384, table, &a) == WERFUND_ROOM && a.place == sizeof record,
           "16,384 are fault 10 at the record's length");
     check(all(words, 0, 16384, 0) && all(words, 16384, 21064, BEFORE), "and are 0, the words beyond untouched");
-    check(werfund_translate_checked(record, sizeof record, words, 21064, table, &a) == WERFUND_ACCEPTED && a.words == 21064, "21,064 are enough");
+    check(werfund_translate_checked(record, sizeof record, words, 21064, table, &a) == WERFUND_ACCEPTED && a.words == 21064,
+          "21,064 are enough");
     free(words);
     memcpy(record + 77, pair, sizeof pair);
     check(counts(record, 77 + sizeof pair, WERFUND_ACCEPTED, 0, 102), "a pair needs 102");

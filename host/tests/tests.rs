@@ -219,8 +219,8 @@ fn boundary(checks: &mut Checks) {
     );
 }
 
-/// Groups: 32 BlockMoves of 16 loads each, for which 16,384 words are too few; a pair, also where RAM is shorter than it; and a kind that there is
-/// not.
+/// Groups: 32 BlockMoves of 16 loads each, for which 16,384 words are too few; a pair, also where RAM is shorter than it; and a kind that
+/// there is not.
 fn groups(checks: &mut Checks) {
     let mut translator = Translator::new();
     let operation = |kind: u8, operands: &[u32]| {

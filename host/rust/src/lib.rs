@@ -84,7 +84,7 @@ impl fmt::Display for Fault {
             1 => "a field is cut or missing",
             2 => "a tag is not due, or a length not its field's",
             3 => "a kind is above 44",
-            4 => "a flag or an operand is out of range, or a group too long",
+            4 => "a flag or an operand is out of range, or a group is too long",
             5 => "an offset is too large, unaligned or overlaps another",
             6 => "a region is too short, unaligned or ends above 2^32",
             7 => "the block's address is outside 02000000 to 03ffffff",
@@ -127,8 +127,8 @@ impl Translator {
         }
     }
 
-    /// The words of an accepted record's block, in `words`; or the first fault, and every lent word 0. 28,124 words are enough for every block;
-    /// [`words_needed`](Translator::words_needed) says how many it takes.
+    /// The words of an accepted record's block, in `words`; or the first fault, and every lent word 0. 28,124 words are enough for every
+    /// block; [`words_needed`](Translator::words_needed) says how many it takes.
     ///
     /// ```
     /// # fn number(n: u32) -> [u8; 4] { n.to_le_bytes() }
