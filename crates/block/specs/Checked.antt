@@ -6,8 +6,10 @@ use mathlib.Core.Logic.{_⊎_}
 use Prim.Native.Nat.{ℕ, _+_, _*_, _%_, _<_, _≤_}
 use lib.ListN.{length}
 use Rattle.block.specs.Block.{Base, Reg, Sp, Fast, BOp, Layout, Memory, Addresses, Block, opsOf, mayJump, moved}
-use Rattle.block.specs.Block.{Nop, MovI, Mov, AddRI, ShlI, SarI, Alu3, Alu3I, Alu2, Alu2I, A4, Ext, MinMax, Un, Div, Mov2, Mov2I, BitExt, BitIns, SpAdd, RFromSp}
-use Rattle.block.specs.Block.{Ld, St, LdIdx, StIdx, LdPost, StPost, Rmw, PushRet, PopRets, BrI, BrR, DecBr, BitBr, Goto, Call, Rts, GotoR, CallR, PopRet, BlockMove, PushRets, PopPc, LdPair, StPair}
+use Rattle.block.specs.Block.{Nop, MovI, Mov, AddRI, ShlI, SarI, Alu3, Alu3I, Alu2, Alu2I, A4, Ext, MinMax, Un, Div, Mov2, Mov2I}
+use Rattle.block.specs.Block.{BitExt, BitIns, SpAdd, RFromSp}
+use Rattle.block.specs.Block.{Ld, St, LdIdx, StIdx, LdPost, StPost, Rmw, PushRet, PopRets, BrI, BrR, DecBr, BitBr, Goto, Call, Rts}
+use Rattle.block.specs.Block.{GotoR, CallR, PopRet, BlockMove, PushRets, PopPc, LdPair, StPair}
 
 -- ---- operands
 

@@ -16,9 +16,11 @@ use Rattle.code.specs.Items.{pick}
 use Rattle.code.specs.Tree.{Depth, top, under, Var, inner, outer, Code, words, labels, jumps, Tests}
 use Rattle.lowering.specs.declared.RegCache.{RegCache}
 use Rattle.lowering.specs.Instrs.{CPU, RAM, XIP, mov32, ldr}
-use Rattle.lowering.specs.Cache.{POOL, host, FREE, offReg, oldest, isHeld, chosen, spill, ldReg, stReg, flushFrom, flush, reloadFrom, reload}
+use Rattle.lowering.specs.Cache.{POOL, host, FREE, offReg, oldest, isHeld, chosen, spill, ldReg, stReg, flushFrom, flush, reloadFrom}
+use Rattle.lowering.specs.Cache.{reload}
 use Rattle.lowering.specs.Steps.{Step}
-use Rattle.lowering.specs.Fragments.{minus, addImm, brkFirst, even, tryRegion, extended, oddTest, mapTest, call, exitImm, chain, ind, hold, checkBrk, fork, limit, load, store, stepCode, stepCache, stepsCode}
+use Rattle.lowering.specs.Fragments.{minus, addImm, brkFirst, even, tryRegion, extended, oddTest, mapTest, call, exitImm, chain, ind}
+use Rattle.lowering.specs.Fragments.{hold, checkBrk, fork, limit, load, store, stepCode, stepCache, stepsCode}
 use Rattle.bounds.proofs.Cost.{Measure, Cost, cost, costOf, total}
 
 -- ---- the lists of instructions

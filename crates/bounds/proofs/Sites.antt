@@ -16,7 +16,8 @@ use Rattle.code.proofs.Order.{rise-append}
 use Rattle.lowering.specs.declared.RegCache.{RegCache}
 use Rattle.lowering.specs.Cache.{emptyCache}
 use Rattle.lowering.specs.Steps.{Step, behind, opSteps, opsSteps, blockSteps}
-use Rattle.lowering.specs.Fragments.{brkFirst, tryRegion, oddTest, mapTest, call, exitImm, chain, ind, checkBrk, fork, limit, load, store, stepCode, stepCache, stepsCode, opening}
+use Rattle.lowering.specs.Fragments.{brkFirst, tryRegion, oddTest, mapTest, call, exitImm, chain, ind, checkBrk, fork, limit, load, store}
+use Rattle.lowering.specs.Fragments.{stepCode, stepCache, stepsCode, opening}
 use Rattle.lowering.specs.Compile.{blockCode, starts, targets}
 use Rattle.lowering.proofs.Targets.{targets-append}
 use Rattle.bounds.specs.Whole.{Sited}

@@ -2,7 +2,8 @@
 pub use Rattle.block.specs.declared.Op.{Op}
 pub use Rattle.block.specs.declared.Op.the-variants.{Add, Sub, RSub, And, AndNot, Or, Xor, Mul, Shl, Shr, Sar}
 pub use Rattle.block.specs.declared.RmwOp.{RmwOp}
-pub use Rattle.block.specs.declared.RmwOp.the-variants.{Or as RmwOr, And as RmwAnd, Xor as RmwXor, Add as RmwAdd, Sub as RmwSub, Mov as RmwMov}
+pub use Rattle.block.specs.declared.RmwOp.the-variants.{Or as RmwOr, And as RmwAnd, Xor as RmwXor, Add as RmwAdd, Sub as RmwSub}
+pub use Rattle.block.specs.declared.RmwOp.the-variants.{Mov as RmwMov}
 pub use Rattle.block.specs.declared.Cond.{Cond}
 pub use Rattle.block.specs.declared.Cond.the-variants.{Eq, Ne, LtU, GtU, LeU, GeU, LtS, GtS, LeS, GeS}
 pub use Rattle.block.specs.declared.Base.{Base}
@@ -20,7 +21,10 @@ pub use Rattle.block.specs.declared.UnKind.the-variants.{Not, Neg, Abs, Rev, Cl
 pub use Rattle.block.specs.declared.DivKind.{DivKind}
 pub use Rattle.block.specs.declared.DivKind.the-variants.{QuoS, QuoU, RemS, RemU}
 pub use Rattle.block.specs.declared.Fast.{Fast}
-pub use Rattle.block.specs.declared.Fast.the-variants.{Nop, MovI, Mov, AddRI, ShlI, SarI, Alu3, Alu3I, Alu2, Alu2I, A4, Ext, MinMax, Un, Div, Mov2, Mov2I, BitExt, BitIns, SpAdd, RFromSp, Ld, St, LdIdx, StIdx, LdPost, StPost, Rmw, PushRet, PopRets, BrI, BrR, DecBr, BitBr, Goto, Call, Rts, GotoR, CallR, PopRet, BlockMove, PushRets, PopPc, LdPair, StPair}
+pub use Rattle.block.specs.declared.Fast.the-variants.{Nop, MovI, Mov, AddRI, ShlI, SarI, Alu3, Alu3I, Alu2, Alu2I, A4, Ext, MinMax, Un}
+pub use Rattle.block.specs.declared.Fast.the-variants.{Div, Mov2, Mov2I, BitExt, BitIns, SpAdd, RFromSp, Ld, St, LdIdx, StIdx, LdPost}
+pub use Rattle.block.specs.declared.Fast.the-variants.{StPost, Rmw, PushRet, PopRets, BrI, BrR, DecBr, BitBr, Goto, Call, Rts, GotoR}
+pub use Rattle.block.specs.declared.Fast.the-variants.{CallR, PopRet, BlockMove, PushRets, PopPc, LdPair, StPair}
 pub use Rattle.block.specs.declared.BOp.{BOp}
 pub use Rattle.block.specs.declared.Layout.{Layout}
 pub use Rattle.block.specs.declared.Memory.{Memory}

@@ -6,7 +6,10 @@ use lib.Bits.{bitAnd, bitOr, bitXor}
 use lib.Dec.{eqb}
 use Rattle.block.specs.Block.{members, span, saved, pairOf}
 use Rattle.card.specs.Kinds.{RmwOp, RmwOr, RmwAnd, RmwXor, RmwAdd, RmwSub, RmwMov, Cond, Eq, Ne, Width, B32, Memory}
-use Rattle.card.specs.Kinds.{Fast, Nop, MovI, Mov, AddRI, ShlI, SarI, Alu3, Alu3I, Alu2, Alu2I, A4, Ext, MinMax, Un, Div, Mov2, Mov2I, BitExt, BitIns, SpAdd, RFromSp, Ld, St, LdIdx, StIdx, LdPost, StPost, Rmw, PushRet, PopRets, BrI, BrR, DecBr, BitBr, Goto, Call, Rts, GotoR, CallR, PopRet, BlockMove, PushRets, PopPc, LdPair, StPair}
+use Rattle.card.specs.Kinds.{Fast, Nop, MovI, Mov, AddRI, ShlI, SarI, Alu3, Alu3I, Alu2, Alu2I, A4, Ext, MinMax, Un, Div, Mov2}
+use Rattle.card.specs.Kinds.{Mov2I, BitExt, BitIns, SpAdd, RFromSp, Ld, St, LdIdx, StIdx, LdPost, StPost, Rmw, PushRet, PopRets}
+use Rattle.card.specs.Kinds.{BrI, BrR, DecBr, BitBr, Goto, Call, Rts, GotoR, CallR, PopRet, BlockMove, PushRets, PopPc, LdPair}
+use Rattle.card.specs.Kinds.{StPair}
 use Rattle.card.specs.Word.{plus, minus, bit, shl, sar, alu, ext, holds, minMax, un, div, bitExt, bitIns}
 use Rattle.card.specs.Card.{Card, reg, baseOf, rhs, setReg, setSp, setRets, arrive, addReg, addSp}
 use Rattle.card.specs.Memory.{Access, got, unmet, load, store}

@@ -8,7 +8,10 @@ use native.Mathlib.Nat.{mod-eq-of-lt}
 use Rattle.arm.specs.Fields.{pack, Fits}
 use Rattle.arm.proofs.Pieces.{pack-lt}
 use Rattle.arm.specs.declared.Instr.{Instr}
-use Rattle.arm.specs.Instr.{encode, Carried, format, operands, class, Class, moveWide, addSubImm, addSubShifted, logicalShifted, logicalImm, bitfield, oneSource, twoSource, threeSource, condSelect, memoryImm, memoryReg, memoryPair, compareBranch, testBranch, condBranch, branch, branchReg, adr as adrClass, loadLiteral, nop, floatTwo, floatCompare, floatConvert}
+use Rattle.arm.specs.Instr.{encode, Carried, format, operands, class, Class, moveWide, addSubImm, addSubShifted, logicalShifted}
+use Rattle.arm.specs.Instr.{logicalImm, bitfield, oneSource, twoSource, threeSource, condSelect, memoryImm, memoryReg, memoryPair}
+use Rattle.arm.specs.Instr.{compareBranch, testBranch, condBranch, branch, branchReg, adr as adrClass, loadLiteral, nop, floatTwo}
+use Rattle.arm.specs.Instr.{floatCompare, floatConvert}
 use Rattle.code.specs.Items.{Hole, b, bCond, cb, tb, adr, ldr, fill}
 use Rattle.code.specs.Emit.{kind, patch}
 

@@ -9,7 +9,8 @@ use lib.ListN.{length, getD, take, length-append, length-map, replicate}
 use lib.Seq.{getD-take, length-take-le, append-snoc}
 use borrow.Author.Tests.{le-ltb, ltb-true, ltb-false, eqb-true}
 use Rattle.arm.specs.declared.Instr.{Instr}
-use Rattle.code.specs.Items.{pick, adr, label, literal, Item, ins, go, new, bind, size, binds, add, poolOf, halves, padOf, baseOf, placesOf, Below}
+use Rattle.code.specs.Items.{pick, adr, label, literal, Item, ins, go, new, bind, size, binds, add, poolOf, halves, padOf, baseOf}
+use Rattle.code.specs.Items.{placesOf, Below}
 use Rattle.code.specs.Emit.{kind, St, lead, pooledWords, lay}
 use Rattle.code.specs.Emit.{run as runE, start as startE, finish as finishE}
 use Rattle.code.specs.Tree.{Depth, top, Var, Code, code, lit, to, exit, block, start, _then_, inside, words, labels, jumps, after, items}

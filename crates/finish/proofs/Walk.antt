@@ -9,7 +9,8 @@ use lib.Dec.{ltb}
 use lib.IntN.{ℤ, pos, negsuc}
 use lib.ListN.{length, getD, take}
 use borrow.Author.Tests.{lt-ltb, ltb-true, ltb-false, ne-eqb}
-use Rattle.code.specs.Items.{Hole, b, bCond, cb, tb, adr, ldr, reachOf, Within, twos, bytes, Place, label, literal, Item, ins, go, new, bind, dist, size, binds, index, add, poolOf, Met, Reach}
+use Rattle.code.specs.Items.{Hole, b, bCond, cb, tb, adr, ldr, reachOf, Within, twos, bytes, Place, label, literal, Item, ins, go, new}
+use Rattle.code.specs.Items.{bind, dist, size, binds, index, add, poolOf, Met, Reach}
 use Rattle.code.specs.declared.Fix.{Fix}
 use Rattle.code.specs.declared.Fix.the-variants.{B26, B19, B14, Adr21}
 use Rattle.code.specs.Emit.{kind, patch, Goal, toLabel, toEntry, Fixup, lead, patched, patchAll}

@@ -14,7 +14,8 @@ use Rattle.code.specs.Items.{Hole, b, bCond, cb, adr, ldr as ldrHole, label, li
 use Rattle.code.specs.Tree.{Depth, top, under, Var, inner, Code, code, to, exit, block, start, _then_, inside, nowhere}
 use Rattle.lowering.specs.declared.RegCache.{RegCache}
 use Rattle.lowering.specs.Cache.{flush}
-use Rattle.lowering.specs.Instrs.{CPU, CTX, RAM, XIP, KEEP, KEEP2, FLAGS, DONE, LIMIT, NE, LS, mov, movX, movz, mov32, addI, addXLsl, cmp, ubfx, ldr, str, ldrX, strX, frame, br, ret}
+use Rattle.lowering.specs.Instrs.{CPU, CTX, RAM, XIP, KEEP, KEEP2, FLAGS, DONE, LIMIT, NE, LS, mov, movX, movz, mov32, addI, addXLsl, cmp}
+use Rattle.lowering.specs.Instrs.{ubfx, ldr, str, ldrX, strX, frame, br, ret}
 use Rattle.lowering.specs.Fragments.{OFF-BRK, OFF-SLOT, brkFirst, hold, exitImm, chain, ind, checkBrk, fork, limit, opening, closing}
 use Rattle.lowering.specs.Given.{placed}
 use Rattle.asm.specs.declared.Asm.{Asm}
@@ -22,7 +23,8 @@ use Rattle.asm.specs.declared.Made.{Made}
 use Rattle.asm.specs.State.{State, state, made, put}
 use Rattle.asm.proofs.Laws.{new-put}
 use Rattle.emission.specs.Total.{putT, emitted, afterT, startsT}
-use Rattle.emission.proofs.After.{none, more, same, code-after, lit-after, to-after, exit-after, then-after, block-after, start-after, then-starts}
+use Rattle.emission.proofs.After.{none, more, same, code-after, lit-after, to-after, exit-after, then-after, block-after, start-after}
+use Rattle.emission.proofs.After.{then-starts}
 use Rattle.jumps.specs.Parts.{tabled, leave, back, lookup, saves, arguments}
 
 -- ---- with the label as `new_label` answers it

@@ -10,7 +10,10 @@ use Prim.Native.Nat.{ℕ, suc, _+_}
 use native.Mathlib.Numerals.{add-one}
 use lib.Dec.{eqb}
 use Rattle.block.specs.declared.Fast.{Fast}
-use Rattle.block.specs.declared.Fast.the-variants.{Nop, MovI, Mov, AddRI, ShlI, SarI, Alu3, Alu3I, Alu2, Alu2I, A4, Ext, MinMax, Un, Div, Mov2, Mov2I, BitExt, BitIns, SpAdd, RFromSp, Ld, St, LdIdx, StIdx, LdPost, StPost, Rmw, PushRet, PopRets, BrI, BrR, DecBr, BitBr, Goto, Call, Rts, GotoR, CallR, PopRet, BlockMove, PushRets, PopPc, LdPair, StPair}
+use Rattle.block.specs.declared.Fast.the-variants.{Nop, MovI, Mov, AddRI, ShlI, SarI, Alu3, Alu3I, Alu2, Alu2I, A4, Ext, MinMax, Un, Div}
+use Rattle.block.specs.declared.Fast.the-variants.{Mov2, Mov2I, BitExt, BitIns, SpAdd, RFromSp, Ld, St, LdIdx, StIdx, LdPost, StPost, Rmw}
+use Rattle.block.specs.declared.Fast.the-variants.{PushRet, PopRets, BrI, BrR, DecBr, BitBr, Goto, Call, Rts, GotoR, CallR, PopRet}
+use Rattle.block.specs.declared.Fast.the-variants.{BlockMove, PushRets, PopPc, LdPair, StPair}
 use Rattle.block.specs.declared.BOp.{BOp}
 use Rattle.block.specs.declared.Block.{Block}
 use Rattle.block.specs.Block.{usesBus}
@@ -24,7 +27,8 @@ use Rattle.relation.specs.Relation.{Small}
 use Rattle.relation.specs.Abs.{Abs, Then, go, off, void, withTemp, mstep, mrun, andThen}
 use Rattle.kinds.specs.Agrees.{Agrees}
 use Rattle.kinds.proofs.Kind.{kind}
-use Rattle.kinds.proofs.Kind.{nop, movI, mov, addRI, shlI, sarI, alu3, alu3I, alu2, alu2I, a4, ext-kind, minMax-kind, un-kind, div-kind, mov2, mov2I, bitExt-kind, bitIns-kind, spAdd, rFromSp}
+use Rattle.kinds.proofs.Kind.{nop, movI, mov, addRI, shlI, sarI, alu3, alu3I, alu2, alu2I, a4, ext-kind, minMax-kind, un-kind}
+use Rattle.kinds.proofs.Kind.{div-kind, mov2, mov2I, bitExt-kind, bitIns-kind, spAdd, rFromSp}
 use Rattle.kinds.proofs.Bus.{ld, st, ldIdx, stIdx, ldPost, stPost, rmw-kind, pushRet, popRets}
 use Rattle.kinds.proofs.Groups.{blockMove, pushRets, popPc, ldPair, stPair}
 use Rattle.kinds.proofs.Jumps.{brI, brR, decBr, bitBr, goto-kind, call-kind, rts, gotoR, callR, popRet}

@@ -23,7 +23,8 @@ use Rattle.machine.specs.Bits.{SInt, toBits, SignExtend, NOT, CountLeadingZeroB
 use Rattle.machine.specs.Execute.{addSub, shifted, one, two, three, extracted}
 use Rattle.block.specs.declared.UnKind.{UnKind}
 use Rattle.machine.proofs.Numbers.{lsl-zero, lsl-field, add-is, sub-is}
-use Rattle.card.specs.Word.{plus, minus, complement, bit, signedOf, bitsOf, shl, shr, sar, signExtend, field, un, leadingZeros, unlessZero, quotS, quotU, mask}
+use Rattle.card.specs.Word.{plus, minus, complement, bit, signedOf, bitsOf, shl, shr, sar, signExtend, field, un, leadingZeros}
+use Rattle.card.specs.Word.{unlessZero, quotS, quotU, mask}
 use Rattle.code.specs.Items.{pick}
 use Rattle.lowering.specs.Steps.{ones, hole, sign}
 

@@ -18,9 +18,12 @@ use Rattle.block.specs.Block.{places, upFrom}
 use Rattle.code.specs.Items.{index, add, halves, padOf, baseOf}
 use Rattle.code.specs.Tree.{words, lines, instrs, wholeLines, poolIn, findIn, linesWords}
 use Rattle.lowering.specs.Instrs.{mov32}
-use Rattle.lowering.specs.Cache.{position, latest, oldest, chosen, spill, slotFor, seated, ldReg, stReg, stored, flushFrom, flush, reloadFrom, reload}
+use Rattle.lowering.specs.Cache.{position, latest, oldest, chosen, spill, slotFor, seated, ldReg, stReg, stored, flushFrom, flush}
+use Rattle.lowering.specs.Cache.{reloadFrom, reload}
 use Rattle.lowering.specs.Steps.{moveWords, pushAll, popAll, lowered, opSteps, opsSteps, blockSteps}
-use Rattle.lowering.specs.Fragments.{addImm, brkFirst, even, loads, tryRegion, extended, oddTest, mapTest, stores, call, exitImm, chain, ind, hold, checkBrk, fork, limit, load, store, stepCode, stepCache, stepsCode, opening, closing}
+use Rattle.lowering.specs.Fragments.{addImm, brkFirst, even, loads, tryRegion, extended, oddTest, mapTest, stores, call, exitImm}
+use Rattle.lowering.specs.Fragments.{chain, ind, hold, checkBrk, fork, limit, load, store, stepCode, stepCache, stepsCode, opening}
+use Rattle.lowering.specs.Fragments.{closing}
 use Rattle.lowering.specs.Compile.{blockWords, blockLines, blockCode, sites, starts}
 
 abbrev nop : BOp

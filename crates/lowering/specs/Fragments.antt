@@ -19,7 +19,9 @@ use Rattle.block.specs.Block.{bytes}
 use Rattle.code.specs.Items.{pick, b, bCond, cb, tb}
 use Rattle.code.specs.Tree.{Depth, top, under, Var, inner, outer, Code, code, lit, to, exit, block, start, _then_}
 use Rattle.lowering.specs.declared.RegCache.{RegCache}
-use Rattle.lowering.specs.Instrs.{CPU, CTX, RAM, XIP, KEEP, KEEP2, FLAGS, DONE, LIMIT, SP, NE, HI, LS, mov, movX, movz, mov32, addI, subI, add, addXLsl, sub, cmp, and, ubfx, sbfx, lsrI, ldr, str, ldrX, strX, indexed, frame, blr, br, ret}
+use Rattle.lowering.specs.Instrs.{CPU, CTX, RAM, XIP, KEEP, KEEP2, FLAGS, DONE, LIMIT, SP, NE, HI, LS, mov, movX, movz, mov32, addI}
+use Rattle.lowering.specs.Instrs.{subI, add, addXLsl, sub, cmp, and, ubfx, sbfx, lsrI, ldr, str, ldrX, strX, indexed, frame, blr}
+use Rattle.lowering.specs.Instrs.{br, ret}
 use Rattle.lowering.specs.Cache.{ldReg, stReg, seated, stored, flush, reload}
 use Rattle.lowering.specs.Steps.{Field, sp, rets, Step}
 pub use Rattle.lowering.specs.Steps.{minus}

@@ -26,12 +26,17 @@ use Rattle.block.specs.declared.UnKind.the-variants.{Not, Neg, Abs, Rev, Clz, S
 use Rattle.block.specs.declared.DivKind.{DivKind}
 use Rattle.block.specs.declared.DivKind.the-variants.{QuoS, QuoU, RemS, RemU}
 use Rattle.block.specs.declared.Fast.{Fast}
-use Rattle.block.specs.declared.Fast.the-variants.{Nop, MovI, Mov, AddRI, ShlI, SarI, Alu3, Alu3I, Alu2, Alu2I, A4, Ext, MinMax, Un, Div, Mov2, Mov2I, BitExt, BitIns, SpAdd, RFromSp, Ld, St, LdIdx, StIdx, LdPost, StPost, Rmw, PushRet, PopRets, BrI, BrR, DecBr, BitBr, Goto, Call, Rts, GotoR, CallR, PopRet, BlockMove, PushRets, PopPc, LdPair, StPair}
+use Rattle.block.specs.declared.Fast.the-variants.{Nop, MovI, Mov, AddRI, ShlI, SarI, Alu3, Alu3I, Alu2, Alu2I, A4, Ext, MinMax, Un, Div}
+use Rattle.block.specs.declared.Fast.the-variants.{Mov2, Mov2I, BitExt, BitIns, SpAdd, RFromSp, Ld, St, LdIdx, StIdx, LdPost, StPost, Rmw}
+use Rattle.block.specs.declared.Fast.the-variants.{PushRet, PopRets, BrI, BrR, DecBr, BitBr, Goto, Call, Rts, GotoR, CallR, PopRet}
+use Rattle.block.specs.declared.Fast.the-variants.{BlockMove, PushRets, PopPc, LdPair, StPair}
 use Rattle.block.specs.declared.BOp.{BOp}
 use Rattle.block.specs.declared.Block.{Block}
 use Rattle.block.specs.Block.{opsOf, mayJump, usesBus, members, span, saved, pairOf}
 use Rattle.code.specs.Items.{pick}
-use Rattle.lowering.specs.Instrs.{KEEP, ZR, EQ, NE, HS, LO, HI, LS, GE, LT, GT, LE, mov, movz, addI, subI, cmpI, add, addLsl, sub, cmp, neg, and, bic, orr, eor, mvn, tst, rev, clz, sdiv, udiv, lslv, lsrv, asrv, mul, msub, csel, cnegLt, ubfx, sbfx, lslI, lsrI, asrI}
+use Rattle.lowering.specs.Instrs.{KEEP, ZR, EQ, NE, HS, LO, HI, LS, GE, LT, GT, LE, mov, movz, addI, subI, cmpI, add, addLsl, sub}
+use Rattle.lowering.specs.Instrs.{cmp, neg, and, bic, orr, eor, mvn, tst, rev, clz, sdiv, udiv, lslv, lsrv, asrv, mul, msub, csel}
+use Rattle.lowering.specs.Instrs.{cnegLt, ubfx, sbfx, lslI, lsrI, asrI}
 
 -- the processor record's numbers that are no registers
 pub data Field : Type 0 where

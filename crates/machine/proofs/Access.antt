@@ -14,7 +14,8 @@ use Rattle.machine.specs.Isa.{W, X, Access, Scale, Mode, Pair, Stp, Ldp,
 use Rattle.machine.specs.Bits.{SignExtend}
 use Rattle.machine.specs.State.{Region, State, R, RSP, withX, withMem}
 use Rattle.machine.specs.Memory.{readLE, writeLE, bytesOf, withBytes, load, store, writable, Apart}
-use Rattle.machine.specs.Execute.{Helpers, done, accessed, stores, loads, loadsSigned, direction, accessBytes, access, scaleBy, pairAddress, writeback, pair, words, execute}
+use Rattle.machine.specs.Execute.{Helpers, done, accessed, stores, loads, loadsSigned, direction, accessBytes, access, scaleBy}
+use Rattle.machine.specs.Execute.{pairAddress, writeback, pair, words, execute}
 use Rattle.machine.proofs.Regions.{At, Alike, load-ok, store-ok, at-part, at-alike, alike-store, apart-alike, bytes-same, with-with}
 
 -- ---- addresses

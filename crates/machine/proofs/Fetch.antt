@@ -17,7 +17,9 @@ use borrow.Author.Tests.{eq-eqb}
 use lib.Arith.{mod-mul}
 use lib.Dec.{T, eqb, eqb→eq}
 use lib.ListN.{length, getD}
-use Rattle.arm.specs.Instr.{Class, moveWide, addSubImm, addSubShifted, logicalShifted, logicalImm, bitfield, oneSource, twoSource, threeSource, condSelect, memoryImm, memoryReg, memoryPair, compareBranch, testBranch, condBranch, branch, branchReg, adr, loadLiteral, nop, floatTwo, floatCompare, floatConvert}
+use Rattle.arm.specs.Instr.{Class, moveWide, addSubImm, addSubShifted, logicalShifted, logicalImm, bitfield, oneSource, twoSource}
+use Rattle.arm.specs.Instr.{threeSource, condSelect, memoryImm, memoryReg, memoryPair, compareBranch, testBranch, condBranch, branch}
+use Rattle.arm.specs.Instr.{branchReg, adr, loadLiteral, nop, floatTwo, floatCompare, floatConvert}
 use Rattle.arm.specs.Instr.{format, class, operands, encode, Carried}
 use Rattle.arm.specs.Fields.{total}
 use Rattle.arm.specs.Decode.{both, valid, decode}
@@ -29,7 +31,8 @@ use Rattle.machine.specs.State.{Region, State, code, withX}
 use Rattle.machine.specs.Memory.{readLE, bytesOfWords, nowhere, bytesOf, baseOf, sizeOf}
 use Rattle.machine.specs.Execute.{Helpers, done, accessed, loads, access, execute}
 use Rattle.machine.specs.Encoders.{hasEncoder}
-use Rattle.machine.specs.Machine.{Status, running, atReturn, atJump, fault, Run, fetch, encoded, instruction, outcome, decoded, fetched, step, following, run}
+use Rattle.machine.specs.Machine.{Status, running, atReturn, atJump, fault, Run, fetch, encoded, instruction, outcome, decoded}
+use Rattle.machine.specs.Machine.{fetched, step, following, run}
 use Rattle.machine.proofs.Regions.{within-yes, load-code}
 use Rattle.machine.proofs.Numbers.{words-forward}
 use Rattle.machine.proofs.Access.{exec-literal}

@@ -35,7 +35,10 @@ use Rattle.block.specs.declared.UnKind.the-variants.{Not, Neg, Abs, Rev, Clz, S
 use Rattle.block.specs.declared.DivKind.{DivKind}
 use Rattle.block.specs.declared.DivKind.the-variants.{QuoS, QuoU, RemS, RemU}
 use Rattle.block.specs.declared.Fast.{Fast}
-use Rattle.block.specs.declared.Fast.the-variants.{Nop, MovI, Mov, AddRI, ShlI, SarI, Alu3, Alu3I, Alu2, Alu2I, A4, Ext, MinMax, Un, Div, Mov2, Mov2I, BitExt, BitIns, SpAdd, RFromSp, Ld, St, LdIdx, StIdx, LdPost, StPost, Rmw, PushRet, PopRets, BrI, BrR, DecBr, BitBr, Goto, Call, Rts, GotoR, CallR, PopRet, BlockMove, PushRets, PopPc, LdPair, StPair}
+use Rattle.block.specs.declared.Fast.the-variants.{Nop, MovI, Mov, AddRI, ShlI, SarI, Alu3, Alu3I, Alu2, Alu2I, A4, Ext, MinMax, Un, Div}
+use Rattle.block.specs.declared.Fast.the-variants.{Mov2, Mov2I, BitExt, BitIns, SpAdd, RFromSp, Ld, St, LdIdx, StIdx, LdPost, StPost, Rmw}
+use Rattle.block.specs.declared.Fast.the-variants.{PushRet, PopRets, BrI, BrR, DecBr, BitBr, Goto, Call, Rts, GotoR, CallR, PopRet}
+use Rattle.block.specs.declared.Fast.the-variants.{BlockMove, PushRets, PopPc, LdPair, StPair}
 use Rattle.block.specs.declared.BOp.{BOp}
 use Rattle.block.specs.declared.Layout.{Layout}
 use Rattle.block.specs.declared.Memory.{Memory}
@@ -48,11 +51,14 @@ use Rattle.machine.specs.Encoders.{encoders, hasEncoder}
 use Rattle.lowering.specs.declared.RegCache.{RegCache}
 use Rattle.lowering.specs.Instrs.{mov, movX, mov32, addI, subI, add, sub, cmp, csel, str, indexed, sbfx, ubfx, lslI, lsrI, asrI, addLsl}
 use Rattle.lowering.specs.Instrs.{ldr as ldrIns}
-use Rattle.lowering.specs.Cache.{POOL, host, FREE, emptyCache, offReg, oldest, isHeld, chosen, spill, slotFor, seated, stored, flushFrom, flush, reloadFrom, reload}
+use Rattle.lowering.specs.Cache.{POOL, host, FREE, emptyCache, offReg, oldest, isHeld, chosen, spill, slotFor, seated, stored, flushFrom}
+use Rattle.lowering.specs.Cache.{flush, reloadFrom, reload}
 use Rattle.lowering.specs.Cache.{ldReg as ldRegCode, stReg as stRegCode}
 use Rattle.lowering.specs.Steps.{Step, lowered, opSteps, opsSteps, blockSteps, behind, alu, acond, ext, choice, rhs, base, un, div, low}
 use Rattle.lowering.specs.Steps.{rmwValue, moveWords, moveBase, pushAll, popAll}
-use Rattle.lowering.specs.Fragments.{minus, addImm, brkFirst, even, loads, tryRegion, extended, oddTest, mapTest, stores, call, exitImm, chain, ind, hold, checkBrk, fork, limit, load, store, stepCode, stepCache, stepsCode, opening, closing}
+use Rattle.lowering.specs.Fragments.{minus, addImm, brkFirst, even, loads, tryRegion, extended, oddTest, mapTest, stores, call, exitImm}
+use Rattle.lowering.specs.Fragments.{chain, ind, hold, checkBrk, fork, limit, load, store, stepCode, stepCache, stepsCode, opening}
+use Rattle.lowering.specs.Fragments.{closing}
 use Rattle.lowering.specs.Compile.{blockCode}
 
 -- ---- the property

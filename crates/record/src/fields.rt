@@ -2,7 +2,9 @@
 ghost use mathlib.Core.Path.{_≡_};
 ghost use Prim.Native.Nat.{_+_, _≤_, _<_};
 ghost use lib.ListN.{length};
-ghost use Rattle.record.specs.Record.{cut as isCut, fieldFault, layoutOf, spans, span, any, far as isFar, unaligned, meets, overlap as overlapping, layoutFault, layoutField, memoryOf, regionFault, memoryFault, memoryField, addressesOf, addressesField, startFault, startField};
+ghost use Rattle.record.specs.Record.{cut as isCut, fieldFault, layoutOf, spans, span, any, far as isFar, unaligned, meets};
+ghost use Rattle.record.specs.Record.{overlap as overlapping, layoutFault, layoutField, memoryOf, regionFault, memoryFault};
+ghost use Rattle.record.specs.Record.{memoryField, addressesOf, addressesField, startFault, startField};
 use block::Addresses;
 use block::Layout;
 use block::Memory;

@@ -3,7 +3,8 @@ ghost use mathlib.Core.Path.{_≡_};
 ghost use Prim.Native.Nat.{_+_, _≤_, _<_};
 ghost use lib.ListN.{length};
 ghost use Rattle.block.specs.Checked.{Checked};
-ghost use Rattle.record.specs.Record.{Accepted, empty, fieldFault, refused as refusedAt, header as headerOf, operations as operationsOf, reading, Told};
+ghost use Rattle.record.specs.Record.{Accepted, empty, fieldFault, refused as refusedAt, header as headerOf};
+ghost use Rattle.record.specs.Record.{operations as operationsOf, reading, Told};
 
 mod fields;
 mod operations;

@@ -17,7 +17,10 @@ use Rattle.arm.specs.declared.Move.the-variants.{Movn, Movz, Movk}
 use Rattle.arm.specs.declared.Extract.the-variants.{Sbfm, Bfm, Ubfm}
 use Rattle.arm.specs.declared.Three.the-variants.{Madd, Msub, Smaddl, Umaddl}
 use Rattle.arm.specs.declared.Instr.{Instr}
-use Rattle.arm.specs.declared.Instr.the-variants.{MoveWide, AddSubImm, AddSubShifted, LogicalShifted, LogicalImm, Bitfield, OneSource, TwoSource, ThreeSource, CondSelect, MemoryImm, MemoryReg, MemoryPair, CompareBranch, TestBranch, CondBranch, Branch, BranchReg, Adr, LoadLiteral, Nop, FloatTwo, FloatCompare, FloatConvert}
+use Rattle.arm.specs.declared.Instr.the-variants.{MoveWide, AddSubImm, AddSubShifted, LogicalShifted, LogicalImm, Bitfield, OneSource}
+use Rattle.arm.specs.declared.Instr.the-variants.{TwoSource, ThreeSource, CondSelect, MemoryImm, MemoryReg, MemoryPair, CompareBranch}
+use Rattle.arm.specs.declared.Instr.the-variants.{TestBranch, CondBranch, Branch, BranchReg, Adr, LoadLiteral, Nop, FloatTwo}
+use Rattle.arm.specs.declared.Instr.the-variants.{FloatCompare, FloatConvert}
 use Rattle.block.specs.declared.Block.{Block}
 use Rattle.code.specs.Tree.{Depth, code}
 use Rattle.code.specs.Machine.{fall}

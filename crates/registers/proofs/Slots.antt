@@ -34,7 +34,8 @@ use Rattle.relation.specs.Lines.{arm, ofEffect, bare, exec}
 use Rattle.relation.specs.Abs.{Abs, upd, withTemp, withCard}
 use Rattle.demand.specs.Claim.{slotOf}
 use Rattle.relation.specs.Relation.{pcOf, cls, Body, Kept, Cached, Slots, Sim, Frag, guestOf, dirtyOf}
-use Rattle.registers.proofs.Basics.{test, absurd-bool, upd-same, upd-upd, upd-id, cls-ne, host-cls, View, view-sim, sim-view, kept-x, view-at, put-some}
+use Rattle.registers.proofs.Basics.{test, absurd-bool, upd-same, upd-upd, upd-id, cls-ne, host-cls, View, view-sim, sim-view}
+use Rattle.registers.proofs.Basics.{kept-x, view-at, put-some}
 use Rattle.registers.proofs.Frags.{frag-map, frag-pre, frag-with, frag-nil, frag-one, frag-append}
 use Rattle.registers.proofs.Access.{wrote, count-now, size-now, ldr-now, str-now}
 use Rattle.registers.proofs.Fields.{kept-reg}

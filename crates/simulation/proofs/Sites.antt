@@ -24,7 +24,8 @@ use Rattle.lowering.specs.Steps.{Step}
 use Rattle.lowering.specs.Fragments.{tryRegion, oddTest, mapTest, call, exitImm, chain, ind, checkBrk, fork, limit, load, store, stepCode}
 use Rattle.lowering.specs.Compile.{starts, targets}
 use Rattle.relation.specs.Data.{Data, dataOf}
-use Rattle.relation.specs.Abs.{Abs, Then, go, off, void, upd, kill, vals, orStays, withTemp, known, ifGot, mins, mdata, ifAll, allSeen, flagsFor, mstep}
+use Rattle.relation.specs.Abs.{Abs, Then, go, off, void, upd, kill, vals, orStays, withTemp, known, ifGot, mins, mdata, ifAll, allSeen}
+use Rattle.relation.specs.Abs.{flagsFor, mstep}
 
 -- the site that a way out leads by is one of the positions
 abbrev pub Has : Way → (positions : List ℕ) → Type 0

@@ -187,7 +187,8 @@ module _ {b : Block} {h : Helpers} {s0 : State} {base : ℕ} where
                   let (s₁, e, j) = x .meets .runs p s i in
                   let q : ℕ = p + words f in
                   let v : starts f p ++ starts g q ≡ starts g q = ap (λ ss. ss ++ starts g q) (x .sited p .0) in
-                  subst (λ o. Leaves b s0 w c (siteAt base w (starts f p ++ starts g q)) (andThen o (λ s₂. does (arm h base) g q s₂))) (sym e)
+                  subst
+                  (λ o. Leaves b s0 w c (siteAt base w (starts f p ++ starts g q)) (andThen o (λ s₂. does (arm h base) g q s₂))) (sym e)
                   (subst (λ ss. Leaves b s0 w c (siteAt base w ss) (does (arm h base) g q s₁)) (sym v) (z .meets .leaves q s₁ j));
             };
             sited = behind-f (off w c) z;
@@ -199,9 +200,10 @@ module _ {b : Block} {h : Helpers} {s0 : State} {base : ℕ} where
           leaves = λ p s i.
               let q : ℕ = p + words f in
               let rest : State → Out State Stop top = λ s₁. does (arm h base) g q s₁ in
-              leaves-as b s0 w c (siteAt base w (starts f p)) (siteAt base w (starts f p ++ starts g q)) (andThen (does (arm h base) f p s) rest)
+              let first : Out State Stop top = does (arm h base) f p s in
+              leaves-as b s0 w c (siteAt base w (starts f p)) (siteAt base w (starts f p ++ starts g q)) (andThen first rest)
               (front-same base w (starts f p) (starts g q) (x .sited p .0))
-              (leaves-front b s0 w c (siteAt base w (starts f p)) (does (arm h base) f p s) rest (x .meets .leaves p s i));
+              (leaves-front b s0 w c (siteAt base w (starts f p)) first rest (x .meets .leaves p s i));
         };
         sited = λ p. (has-front w (starts f p) (starts g (p + words f)) (x .sited p .0), aimed-front w c ts us (x .sited p .1));
       }

@@ -27,7 +27,8 @@ use Rattle.finish.specs.Whole.{laid, told as toldBy}
 use Rattle.translation.specs.declared.Sites.{Sites}
 use Rattle.translation.specs.declared.Translated.{Translated}
 use Rattle.translation.specs.declared.Translated.the-variants.{Accepted, Refused}
-use Rattle.translation.specs.Translation.{Told, accepted, refused, listed, told, blockTold, toldBehind, laidBehind, translation, lentAfter}
+use Rattle.translation.specs.Translation.{Told, accepted, refused, listed, told, blockTold, toldBehind, laidBehind, translation}
+use Rattle.translation.specs.Translation.{lentAfter}
 use Rattle.translation.proofs.Promises.{Promised, promised}
 
 -- ---- the contract, from its first two clauses

@@ -14,7 +14,7 @@ use Rattle.block.specs.Block.{moved}
 use Rattle.operands.specs.declared.rows.Shape.{Shape}
 use Rattle.operands.specs.Kinds.{kindAt, fastOf}
 use Rattle.operands.specs.Rows.{shapeOf}
-use Rattle.operands.specs.Operation.{operandsFit, operands, tooLong, contentsFault, operationOf}
+use Rattle.operands.specs.Operation.{_gives_, operandsFit, operands, tooLong, contentsFault, operationOf}
 use Rattle.operands.proofs.Table.{at-most-six, fit-all, none-moved}
 
 -- what `shape_of` answers of a payload's operands
@@ -114,59 +114,61 @@ returns-5 c =
       le-ltb _ _ (c .before .before .if4 .left),
     )
 
+-- the tests before that of a group's length have passed
+passed : (c : tie.Else5)
+    → let b = c .before .before .before .before .before .before .before .before .before in
+    let a = b .before .before .before .args in
+    contentsFault (a .m) (a .p .now) ≡ (tooLong (a .m) (moved (fastOf (b .byte .result) (operands (a .p .now)))) gives 4)
+unfolding contentsFault
+passed c =
+    let q = c .before .before .before .before .before .before in
+    let b = q .before .before .before in
+    let k = b .byte .result in
+    let p = b .before .before .before .args .p .now in
+    let given = q .before .operands-of .ensures in
+    let n = count-is k p given (q .shape-of .ensures) in
+    let f = ap not (sym (fit-is k p given (q .shape-of .ensures))) ∙ c .if5 .left in
+    rw (
+      le-ltb _ _ (b .before .if1 .left),
+      ← b .byte .ensures,
+      lt-leb _ _ (q .before .before .if2 .left),
+      f,
+      ← n,
+      eq-eqb _ _ (c .before .before .before .before .if3 .left),
+      ← c .before .before .before .byte2 .ensures,
+      le-ltb _ _ (c .before .before .if4 .left),
+    )
+
 returns-6 : tie.Need-returns-6
-unfolding contentsFault operationOf
+unfolding operationOf
 returns-6 c =
     let c₅ = c .before .before .before in
     let q = c₅ .before .before .before .before .before .before in
     let b = q .before .before .before in
     let k = b .byte .result in
     let a = b .before .before .before .args in
-    let given = q .before .operands-of .ensures in
-    let n = count-is k (a .p .now) given (q .shape-of .ensures) in
-    let f = ap not (sym (fit-is k (a .p .now) given (q .shape-of .ensures))) ∙ c₅ .if5 .left in
-    let g = none-long (a .m) k (a .p .now) (c .if6 .taken) in
-    let o = c .before .before .fast-of .ensures ∙ ap (fastOf k) given in
+    let o = c .before .before .fast-of .ensures ∙ ap (fastOf k) (q .before .operands-of .ensures) in
     rw (
-      le-ltb _ _ (b .before .if1 .left),
+      passed c₅,
+      none-long (a .m) k (a .p .now) (c .if6 .taken),
       ← b .byte .ensures,
-      lt-leb _ _ (q .before .before .if2 .left),
-      f,
-      g,
-      ← n,
-      eq-eqb _ _ (c₅ .before .before .before .before .if3 .left),
       ← c₅ .before .before .before .byte2 .ensures,
-      le-ltb _ _ (c₅ .before .before .if4 .left),
       o,
       c .before .byte3 .ensures,
     )
 
 returns-7 : tie.Need-returns-7
-unfolding contentsFault
 returns-7 c =
     let c₅ = c .before .before .before .before .before .before in
     let q = c₅ .before .before .before .before .before .before in
     let b = q .before .before .before in
-    let k = b .byte .result in
     let a = b .before .before .before .args in
     let given = q .before .operands-of .ensures in
-    let n = count-is k (a .p .now) given (q .shape-of .ensures) in
-    let f = ap not (sym (fit-is k (a .p .now) given (q .shape-of .ensures))) ∙ c₅ .if5 .left in
-    let g = group-is (a .m) k (a .p .now) given (c .before .before .moved .ensures) (c .before .too-long .ensures) ∙ c .if7 .taken in
-    rw (
-      le-ltb _ _ (b .before .if1 .left),
-      ← b .byte .ensures,
-      lt-leb _ _ (q .before .before .if2 .left),
-      f,
-      g,
-      ← n,
-      eq-eqb _ _ (c₅ .before .before .before .before .if3 .left),
-      ← c₅ .before .before .before .byte2 .ensures,
-      le-ltb _ _ (c₅ .before .before .if4 .left),
-    )
+    let g = group-is (a .m) (b .byte .result) (a .p .now) given (c .before .before .moved .ensures) (c .before .too-long .ensures) in
+    rw (passed c₅, g, c .if7 .taken)
 
 returns-8 : tie.Need-returns-8
-unfolding contentsFault operationOf
+unfolding operationOf
 returns-8 c =
     let c₆ = c .before .before .before in
     let c₅ = c₆ .before .before .before in
@@ -175,20 +177,14 @@ returns-8 c =
     let k = b .byte .result in
     let a = b .before .before .before .args in
     let given = q .before .operands-of .ensures in
-    let n = count-is k (a .p .now) given (q .shape-of .ensures) in
-    let f = ap not (sym (fit-is k (a .p .now) given (q .shape-of .ensures))) ∙ c₅ .if5 .left in
-    let g = group-is (a .m) k (a .p .now) given (c .before .before .moved .ensures) (c .before .too-long .ensures) ∙ c .if7 .left in
+    let g = group-is (a .m) k (a .p .now) given (c .before .before .moved .ensures) (c .before .too-long .ensures) in
     let o = c₆ .before .before .fast-of .ensures ∙ ap (fastOf k) given in
     rw (
-      le-ltb _ _ (b .before .if1 .left),
-      ← b .byte .ensures,
-      lt-leb _ _ (q .before .before .if2 .left),
-      f,
+      passed c₅,
       g,
-      ← n,
-      eq-eqb _ _ (c₅ .before .before .before .before .if3 .left),
+      c .if7 .left,
+      ← b .byte .ensures,
       ← c₅ .before .before .before .byte2 .ensures,
-      le-ltb _ _ (c₅ .before .before .if4 .left),
       o,
       c₆ .before .byte3 .ensures,
     )

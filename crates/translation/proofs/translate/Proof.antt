@@ -13,20 +13,31 @@ returns c =
 
 returns-2 : tie.Need-returns-2
 returns-2 c =
-    let e = c .before .before .before .before .before .before .before .before .before .enum-told .given .1 in
-    let k = c .before .before .before .before .before .before .compile .ensures (c .before .before .before .before .before .before .before .before .before .before .before .read .ensures .1 .0 e) in
-    met-words (c .before .before .before .before .before .before .before .before .before .before .before .before .before .before .args .bytes .now) _ _ _ (λ i. omega (arith, c .before .before .before .before .before .before .before .before .before .before .before .before .before .shared-slice-known .given i)) (c .before .before .before .before .before .before .before .before .before .before .before .read .ensures .0) e _ (k .0) (k .1) _ (c .listed-sites .result) (c .before .before .finished .given .1)
+    let c₄ = c .before .before .before .before .before .before in
+    let c₃ = c₄ .before .before .before in
+    let c₂ = c₃ .before .before in
+    let c₁ = c₂ .before .before in
+    let e = c₃ .enum-told .given .1 in
+    let k = c₄ .compile .ensures (c₂ .read .ensures .1 .0 e) in
+    met-words (c₁ .before .args .bytes .now) _ _ _ (λ i. omega (arith, c₁ .shared-slice-known .given i)) (c₂ .read .ensures .0) e _
+    (k .0) (k .1) _ (c .listed-sites .result) (c .before .before .finished .given .1)
     (c .listed-sites .ensures ∙ ap₂ zipSites (k .2) (k .3))
 
 returns-3 : tie.Need-returns-3
 returns-3 c =
-    let e = c .before .before .before .before .before .before .before .before .enum-told .given .1 in
-    let k = c .before .before .before .before .before .compile .ensures (c .before .before .before .before .before .before .before .before .before .before .read .ensures .1 .0 e) in
-    met-short (c .before .before .before .before .before .before .before .before .before .before .before .before .before .args .bytes .now) _ _ _ (λ i. omega (arith, c .before .before .before .before .before .before .before .before .before .before .before .before .shared-slice-known .given i)) (c .before .before .before .before .before .before .before .before .before .before .read .ensures .0) e _ (k .0) (k .1) _ (c .before .finished2 .given .1)
+    let c₄ = c .before .before .before .before .before in
+    let c₃ = c₄ .before .before .before in
+    let c₂ = c₃ .before .before in
+    let c₁ = c₂ .before .before in
+    let e = c₃ .enum-told .given .1 in
+    let k = c₄ .compile .ensures (c₂ .read .ensures .1 .0 e) in
+    met-short (c₁ .before .args .bytes .now) _ _ _ (λ i. omega (arith, c₁ .shared-slice-known .given i)) (c₂ .read .ensures .0) e _
+    (k .0) (k .1) _ (c .before .finished2 .given .1)
 
 pub translate-spec : {M : Type 1} → statement M
 translate-spec =
     tie.close
     (tie.spec
-    (λ c κs. search needs) (λ c. search needs) (λ c κs. search needs) (λ c. search needs) (λ c κs. search needs) (λ c. search needs) (λ c κs. search needs) (λ c. search needs)
+    (λ c κs. search needs) (λ c. search needs) (λ c κs. search needs) (λ c. search needs)
+    (λ c κs. search needs) (λ c. search needs) (λ c κs. search needs) (λ c. search needs)
     (λ c. search needs) returns (λ c. search needs) returns-2 (λ c. search needs) returns-3)
