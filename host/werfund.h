@@ -28,33 +28,55 @@ extern "C" {
 /* Numbers of an answer of werfund_words_needed. */
 #define WERFUND_NEED 2
 
-/* What a call answers: document 01's faults, by their numbers there. */
-enum werfund_fault {
-    WERFUND_ACCEPTED = 0,
-    WERFUND_CUT = 1,          /* a field's header or payload is cut, or the record ends before the field with tag 04 */
-    WERFUND_FIELD = 2,        /* a tag that is not due, or a length that is not the field's */
-    WERFUND_KIND = 3,         /* an operation's kind above 44 */
-    WERFUND_OPERAND = 4,      /* a flag or an operand out of range, or a group that moves more bytes than RAM or XIP has */
-    WERFUND_OFFSET = 5,       /* an offset of 16384 or more, one that is no multiple of 4, or two places that overlap */
-    WERFUND_REGION = 6,       /* a region shorter than 4, with a base that is no multiple of 4, or that ends above 2^32 */
-    WERFUND_START = 7,        /* a block's address outside 02000000 to 03ffffff */
-    WERFUND_OPERATIONS = 8,   /* a 33rd operation */
-    WERFUND_BEHIND_JUMP = 9,  /* an operation behind a jump */
-    WERFUND_ROOM = 10,        /* translate: more words are needed than lent; it comes last, so the record has no other fault */
-    WERFUND_REACH = 11,       /* link: the body is out of reach */
-    WERFUND_UNALIGNED = 12    /* link: an address that is no multiple of 4 */
-};
+/* What a call answers, by rows of number, name and text: 0; the faults of reading a record, in the order of document 01's table, those that
+ * document 02 adds where it says; 10, translate's alone and the last; and link's two. Enumeration and texts are made from these rows. */
+#define WERFUND_FAULTS(X)                                                                                            \
+    X(0, WERFUND_ACCEPTED, "accepted")                                                                               \
+    X(1, WERFUND_CUT, "a field's header or payload is cut, or the record ends before the field with tag 04")         \
+    X(2, WERFUND_FIELD, "a tag that is not due, or a length that is not the field's")                                \
+    X(8, WERFUND_OPERATIONS, "a 33rd operation")                                                                     \
+    X(9, WERFUND_BEHIND_JUMP, "an operation behind a jump")                                                          \
+    X(3, WERFUND_KIND, "an operation's kind above 44")                                                               \
+    X(4, WERFUND_OPERAND, "a flag or an operand out of range, or a group that moves more bytes than RAM or XIP has") \
+    X(5, WERFUND_OFFSET, "an offset, or regs plus 60, of 16384 or more")                                             \
+    X(14, WERFUND_OFFSET_UNALIGNED, "an offset that is no multiple of 4")                                            \
+    X(15, WERFUND_OFFSET_OVERLAP, "two places of the processor record that overlap")                                 \
+    X(6, WERFUND_REGION, "a region shorter than 4, with a base that is no multiple of 4, or that ends above 2^32")   \
+    X(7, WERFUND_START, "a block's address outside 02000000 to 03ffffff")                                            \
+    X(10, WERFUND_ROOM, "more words are needed than lent; the record has no other fault")                            \
+    X(11, WERFUND_REACH, "a link's body out of reach")                                                               \
+    X(12, WERFUND_UNALIGNED, "a link's address that is no multiple of 4")
+
+#define WERFUND_FAULT_NUMBER(number, name, text) name = number,
+enum werfund_fault { WERFUND_FAULTS(WERFUND_FAULT_NUMBER) };
+#undef WERFUND_FAULT_NUMBER
 
 /* No fault: a pointer or a length that no call may have. Only the functions with `_checked` answer it, and then nothing was written. */
 #define WERFUND_MISUSE 0xffffffffu
+
+/* The text of an answer, one line without a stop; "unknown fault" of a number that has no row and is not WERFUND_MISUSE. Never null. */
+#define WERFUND_FAULT_TEXT(number, name, text) \
+    case number:                               \
+        return text;
+static inline const char *werfund_fault_text(uint32_t number) {
+    switch (number) {
+        WERFUND_FAULTS(WERFUND_FAULT_TEXT)
+        case WERFUND_MISUSE:
+            return "a pointer or a length that no call may have";
+        default:
+            return "unknown fault";
+    }
+}
+#undef WERFUND_FAULT_TEXT
 
 /* ---- the library's functions
  *
  * No pointer is null, also where the length is 0. `words` is a multiple of 4, `table` and `answer` are multiples of 8. Record, words, table and
  * answer lie apart: no two of them overlap. Lengths count bytes, words and cells, and are true. The functions test none of this.
  *
- * werfund_translate answers 0, or the fault's number, 1 to 10. Accepted: the block's words stand in `words` from the first on, and those behind
- * them are untouched. Refused: all lent words are 0. `answer` gets as many of these eight as it has room for, and its other cells are untouched:
+ * werfund_translate answers 0, or the number of the first fault of reading, or 10. Accepted: the block's words stand in `words` from the
+ * first on, and those behind them are untouched. Refused: all lent words are 0. `answer` gets as many of these eight as it has room for,
+ * and its other cells are untouched:
  *
  *     0  the fault's place, an offset in the record    4  the first site's word    6  the second site's word
  *     1  the number of words                           5  its guest target         7  its guest target
@@ -69,9 +91,9 @@ enum werfund_fault {
 uint32_t werfund_translate(const uint8_t *record, size_t record_bytes, uint32_t *words, size_t words_lent, uint64_t *table, uint64_t *answer,
                            size_t answer_cells);
 
-/* How many words the record's block takes, before any are lent: with that many words or more werfund_translate accepts the record, and with fewer
- * it answers 10. Answers 0, or the fault's number, 1 to 9, with which werfund_translate refuses the record whatever is lent. `answer` gets as many
- * of these two as it has room for, and its other cells are untouched:
+/* How many words the record's block takes, before any are lent: with that many words or more werfund_translate accepts the record, and with
+ * fewer it answers 10. Answers 0, or the number of the first fault of reading, never 10, with which werfund_translate refuses the record
+ * whatever is lent. `answer` gets as many of these two as it has room for, and its other cells are untouched:
  *
  *     0  the fault's place, an offset in the record; 0 where the words are counted
  *     1  the number of words; 0 where the record is refused
@@ -116,9 +138,9 @@ static inline int werfund_stands(const void *p, size_t count, size_t size) {
     return count == 0 || (p != NULL && (uintptr_t)p % size == 0 && count <= (size_t)PTRDIFF_MAX / size);
 }
 
-/* Translates a record. Answers 0, the fault's number, 1 to 10, or WERFUND_MISUSE: a table or an answer that is null, a null pointer with a length,
- * a pointer that is not aligned, or two of record, words, table and answer that overlap. A null pointer with the length 0 is an empty record, or no
- * lent words. */
+/* Translates a record. Answers as werfund_translate, or WERFUND_MISUSE: a table or an answer that is null, a null pointer with a length, a
+ * pointer that is not aligned, or two of record, words, table and answer that overlap. A null pointer with the length 0 is an empty record,
+ * or no lent words. */
 static inline uint32_t werfund_translate_checked(const uint8_t *record, size_t record_bytes, uint32_t *words, size_t words_lent, uint64_t *table,
                                                  werfund_answer *answer) {
     uint8_t no_record = 0;
@@ -150,8 +172,8 @@ static inline uint32_t werfund_translate_checked(const uint8_t *record, size_t r
 }
 
 /* How many words a record's block takes, so that the code space can be reserved before it is translated: lent that many words or more,
- * werfund_translate_checked accepts it. Answers 0, the fault's number, 1 to 9, or WERFUND_MISUSE: a table or an answer that is null, a null record
- * with a length, a pointer that is not aligned, or two of record, table and answer that overlap. */
+ * werfund_translate_checked accepts it. Answers as werfund_words_needed, or WERFUND_MISUSE: a table or an answer that is null, a null
+ * record with a length, a pointer that is not aligned, or two of record, table and answer that overlap. */
 static inline uint32_t werfund_words_needed_checked(const uint8_t *record, size_t record_bytes, uint64_t *table, werfund_need *need) {
     uint8_t no_record = 0;
     uint64_t cells[WERFUND_NEED];

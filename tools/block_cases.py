@@ -29,7 +29,7 @@ LENT = 16384
 AT_ONCE = 1000  # cases
 
 # The oracle's options with the change requests that have landed (tests/oracle/README.md); a request that has one of its own adds it.
-OPTIONS = ["--kinds", "44"]
+OPTIONS = ["--kinds", "44", "--split5"]
 
 
 def public(path):
@@ -46,7 +46,7 @@ def read(path):
 
 
 def draw(folder, command):
-    """The records that `blocks.py ..`, of the oracle's folder, or `pressure.py ..` prints."""
+    """The records that `blocks.py ..`, of the oracle's folder, or a tool beside this one prints."""
     tool, *words = command.split()
     beside = Path(__file__).parent / tool
     command = [sys.executable, str(beside if beside.is_file() else folder / tool)] + words

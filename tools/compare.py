@@ -18,6 +18,9 @@ TOP = Path(__file__).resolve().parent.parent
 
 # How records become cases, what draws them, and the seeds that stand for SEED.
 ROWS = (
+    ("drawn", "layouts.py SEED 20000", "30301 30302"),
+    ("edge", "layouts.py SEED 4000", "30303"),
+    ("drawn", "blocks.py SEED 20000 --request 2026-03 --damaged 80", "30304"),
     ("drawn", "blocks.py SEED 50000 --kinds 44 --damaged 40", "10101 10102"),
     ("drawn", "blocks.py SEED 20000 --request 2026-01 --damaged 30", "10103"),
     ("drawn", "blocks.py SEED 20000 --request 2026-01 --damaged 100", "10104"),

@@ -2,9 +2,9 @@
 
     python3 tools/pressure.py SEED COUNT > FILE
 
-A record a line, in hexadecimal, as tools/block_cases.py takes it (`--drawn FILE`). A block has 12 to 32 operations that draw from eight to sixteen
-guest registers, some of them more often than the others; most operations stay in the registers, some load or store. A block that uses nine
-registers or more gives up a slot; with the seed 11 these are 16,081 of 20,000.
+A record a line, in hexadecimal, as tools/block_cases.py takes it (`--drawn FILE`). A block has 12 to 32 operations that draw from eight
+to sixteen guest registers, some of them more often than the others; most operations stay in the registers, some load or store. A block that
+uses nine registers or more gives up a slot; with the seed 11 these are 16,081 of 20,000.
 """
 import random
 import struct

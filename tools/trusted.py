@@ -22,7 +22,7 @@ CLAIMS = ("/specs/Claims.antt", "demand/specs/Claim.antt", "demand/specs/Next.an
 # The crates of each group; a crate in none of them stands in the last.
 GROUPS = (
     ("The Arm manual and the encoders", "arm words chain constants floats a64"),
-    ("The record", "block operands record"),
+    ("The record", "block operands operation fields record"),
     ("The lowering", "code lowering"),
     ("The card", "card"),
     ("The machine", "machine"),

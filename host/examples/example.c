@@ -22,7 +22,7 @@ static const uint8_t record[77] = {
 static uint64_t table[WERFUND_TABLE];
 
 static int refused(uint32_t fault, size_t place) {
-    printf("refused %u %zu\n", (unsigned)fault, place);
+    printf("refused %u %zu: %s\n", (unsigned)fault, place, werfund_fault_text(fault));
     return 1;
 }
 
@@ -43,7 +43,7 @@ static int build(uint32_t *code, size_t words) {
     printf("site %u to %08x, word %08x\n", (unsigned)block.site[0].at, (unsigned)block.site[0].target, (unsigned)*site);
     fault = werfund_link_checked((int64_t)(intptr_t)site, body, &branch);
     if (fault != WERFUND_ACCEPTED) {
-        printf("not linked %u\n", (unsigned)fault);
+        printf("not linked %u: %s\n", (unsigned)fault, werfund_fault_text(fault));
         return 1;
     }
     *site = branch; /* on the card, the instruction cache is then told */

@@ -235,6 +235,70 @@ static void groups(void) {
     check(counts(record, 77 + sizeof pair, WERFUND_KIND, 77, 0), "and kind 45 is fault 3 at 77");
 }
 
+/* Layouts of the processor record: the whole of one is tested for 5, then for 14, then for 15 (2026-03). */
+static void layouts(void) {
+    static const struct {
+        uint32_t offset[5]; /* regs, sp, rets, pc, hold */
+        uint32_t fault;
+    } layout[] = {
+        {{0, 62, 68, 72, 76}, 14},           /* document 01's example */
+        {{0, 60, 68, 72, 76}, 15},           /* sp among the registers */
+        {{0, 64, 64, 72, 76}, 15},           /* sp at rets */
+        {{16324, 64, 68, 72, 76}, 5},        /* regs plus 60 is 16384, */
+        {{16321, 64, 68, 72, 76}, 14},       /* and here below it */
+        {{0, 64, 68, 72, 16384}, 5},
+        {{0xffffffff, 64, 66, 72, 76}, 5},   /* 5 before 14: regs plus 60 does not wrap */
+        {{0, 64, 64, 72, 16386}, 5},         /* 5 before 14 and 15 */
+        {{1, 68, 72, 76, 80}, 14},
+        {{2, 0, 4, 8, 12}, 14},              /* 14 before 15 */
+        {{16, 12, 8, 4, 0}, 0},              /* in any order, */
+        {{16320, 0, 4, 8, 12}, 0},           /* up to the last that fits */
+        {{0, 64, 68, 72, 16380}, 0},
+    };
+    for (size_t i = 0; i < sizeof layout / sizeof *layout; i++) {
+        uint32_t *words = lend(36), fault = layout[i].fault;
+        uint8_t record[77];
+        werfund_answer a;
+        memcpy(record, empty_block, 77);
+        for (int k = 0; k < 20; k++) {
+            record[3 + k] = (uint8_t)(layout[i].offset[k / 4] >> 8 * (k % 4));
+        }
+        check(werfund_translate_checked(record, 77, words, 36, table, &a) == fault && a.place == 0, "a layout, at place 0");
+        check(fault == WERFUND_ACCEPTED ? a.words == 35 && words[35] == BEFORE : all(words, 0, 36, 0), "its words are the block's, or 0");
+        check(counts(record, 77, fault, 0, fault == WERFUND_ACCEPTED ? 35 : 0), "a layout, counted");
+        free(words);
+        record[30] = 3;
+        record[32] = 0;
+        check(fault == WERFUND_ACCEPTED ? counts(record, 77, WERFUND_REGION, 23, 0) : counts(record, 77, fault, 0, 0),
+              "a RAM of 3 bytes is told behind it");
+    }
+    check(WERFUND_OFFSET == 5 && WERFUND_OFFSET_UNALIGNED == 14 && WERFUND_OFFSET_OVERLAP == 15, "a layout's faults by their names");
+}
+
+/* Each row of the table has a text of its own, and so has WERFUND_MISUSE; no other number has one of these. */
+static void texts(void) {
+#define ROW(number, name, text) {number, text},
+    static const struct {
+        uint32_t number;
+        const char *text;
+    } row[] = {WERFUND_FAULTS(ROW){WERFUND_MISUSE, "a pointer or a length that no call may have"}};
+#undef ROW
+    const size_t rows = sizeof row / sizeof *row;
+    size_t known = 0;
+    for (size_t i = 0; i < rows; i++) {
+        check(strcmp(werfund_fault_text(row[i].number), row[i].text) == 0, "a number has the text of its row");
+        check(strcmp(row[i].text, "unknown fault") != 0, "which says what it is");
+        for (size_t k = 0; k < i; k++) {
+            check(strcmp(row[i].text, row[k].text) != 0, "and is no other's");
+        }
+    }
+    for (uint32_t number = 0; number <= 64; number++) {
+        known += strcmp(werfund_fault_text(number), "unknown fault") != 0;
+    }
+    check(known == rows - 1, "a number without a row is unknown");
+    check(strcmp(werfund_fault_text(WERFUND_MISUSE - 1), "unknown fault") == 0, "however large it is");
+}
+
 static void lengths(void) {
     for (size_t lent = 34; lent <= 36; lent++) {
         uint32_t words[40];
@@ -409,6 +473,8 @@ int main(int argc, char **argv) {
     empty();
     needs();
     groups();
+    layouts();
+    texts();
     lengths();
     misuse();
     need_misuse();

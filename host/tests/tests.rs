@@ -5,6 +5,7 @@
 //!
 //! The form of a case is at the head of tools/block_cases.py. With COUNT only the first cases are compared. Prints what was compared, and the
 //! checks by name where they fail. The exit status is 0 where nothing differs.
+use std::collections::{BTreeMap, BTreeSet};
 use std::process::ExitCode;
 use werfund::{link, Block, Fault, LinkFault, Site, Translator};
 
@@ -208,15 +209,6 @@ fn boundary(checks: &mut Checks) {
             "the words beyond are untouched",
         );
     }
-
-    let said = translator
-        .translate(&record[..76], &mut [])
-        .unwrap_err()
-        .to_string();
-    checks.check(
-        said == "refused 1 70: a field is cut or missing",
-        "a fault says what it is",
-    );
 }
 
 /// Groups: 32 BlockMoves of 16 loads each, for which 16,384 words are too few; a pair, also where RAM is shorter than it; and a kind that
@@ -262,11 +254,90 @@ fn groups(checks: &mut Checks) {
         "with a RAM of 4 bytes it is fault 4 at 77",
     );
     pair[80] = 45;
-    let said = translator.words_needed(&pair).unwrap_err().to_string();
     checks.check(
-        said == "refused 3 77: a kind is above 44",
+        translator.words_needed(&pair) == Err(fault(3, 77)),
         "and kind 45 is fault 3 at 77",
     );
+}
+
+/// Layouts of the processor record: the whole of one is tested for 5, then for 14, then for 15 (2026-03).
+fn layouts(checks: &mut Checks) {
+    let layouts = [
+        ([0, 62, 68, 72, 76], 14),     // document 01's example
+        ([0, 60, 68, 72, 76], 15),     // sp among the registers
+        ([0, 64, 64, 72, 76], 15),     // sp at rets
+        ([16324, 64, 68, 72, 76], 5),  // regs plus 60 is 16384,
+        ([16321, 64, 68, 72, 76], 14), // and here below it
+        ([0, 64, 68, 72, 16384], 5),
+        ([u32::MAX, 64, 66, 72, 76], 5), // 5 before 14: regs plus 60 does not wrap
+        ([0, 64, 64, 72, 16386], 5),     // 5 before 14 and 15
+        ([1, 68, 72, 76, 80], 14),
+        ([2, 0, 4, 8, 12], 14),    // 14 before 15
+        ([16, 12, 8, 4, 0], 0),    // in any order,
+        ([16320, 0, 4, 8, 12], 0), // up to the last that fits
+        ([0, 64, 68, 72, 16380], 0),
+    ];
+    let mut translator = Translator::new();
+    for (offsets, number) in layouts {
+        let mut record = block(0x02000000, 0);
+        record[3..23].copy_from_slice(&offsets.map(u32::to_le_bytes).concat());
+        let expected = match number {
+            0 => Ok(35),
+            _ => Err(fault(number, 0)),
+        };
+        let mut words = [BEFORE; 36];
+        let answer = translator.translate(&record, &mut words);
+        checks.check(
+            answer.map(|block| block.words) == expected,
+            "a layout, at place 0",
+        );
+        checks.check(
+            match number {
+                0 => words[35] == BEFORE,
+                _ => words == [0; 36],
+            },
+            "its words are the block's, or 0",
+        );
+        checks.check(
+            translator.words_needed(&record) == expected,
+            "a layout, counted",
+        );
+        record[30..34].copy_from_slice(&3u32.to_le_bytes());
+        checks.check(
+            translator.words_needed(&record) == Err(expected.err().unwrap_or(fault(6, 23))),
+            "a RAM of 3 bytes is told behind it",
+        );
+    }
+}
+
+/// The texts are those of the table in host/werfund.h, each its own, and a number without a row is unknown, as 0 is: it is no fault.
+fn texts(checks: &mut Checks) {
+    let rows: BTreeMap<u32, &str> = include_str!("../werfund.h")
+        .lines()
+        .filter_map(|line| {
+            let (number, rest) = line.trim().strip_prefix("X(")?.split_once(", ")?;
+            Some((number.parse().ok()?, rest.split('"').nth(1)?))
+        })
+        .collect();
+    for number in (0..=64).chain([u32::MAX]) {
+        let text = match rows.get(&number) {
+            Some(text) if number != 0 => text,
+            _ => "unknown fault",
+        };
+        checks.check(
+            fault(number, 70).to_string() == format!("refused {number} 70: {text}"),
+            "a fault says what the header's row says, or that it is unknown",
+        );
+    }
+    let distinct: BTreeSet<&str> = rows.values().copied().collect();
+    checks.check(distinct.len() == rows.len(), "no two texts are alike");
+    for link in [LinkFault::OutOfReach, LinkFault::Unaligned] {
+        let number = link as u32;
+        checks.check(
+            link.to_string() == format!("not linked {number}: {}", rows[&number]),
+            "a link's fault says what the header's row says",
+        );
+    }
 }
 
 /// Two translators by turns, and one that serves two blocks: no call is disturbed by another.
@@ -307,10 +378,6 @@ fn links(checks: &mut Checks) {
     for (site, body, answer) in links {
         checks.check(link(site, body) == answer, "a link");
     }
-    checks.check(
-        LinkFault::OutOfReach.to_string() == "not linked 11: the body is out of reach",
-        "a link's fault says what it is",
-    );
 }
 
 fn main() -> ExitCode {
@@ -328,6 +395,8 @@ fn main() -> ExitCode {
     );
     boundary(&mut checks);
     groups(&mut checks);
+    layouts(&mut checks);
+    texts(&mut checks);
     interleaved(&mut checks);
     links(&mut checks);
     println!("checks {}\nfailed {}", checks.made, checks.failed);

@@ -2,18 +2,18 @@
 use mathlib.Core.Path.{_≡_, refl, sym, ap, ap₂, subst, _∙_}
 use mathlib.Core.List.{List, [], _∷_, _++_}
 use Prim.Native.Nat.{ℕ, min}
-use native.Mathlib.Omega.{arith}
 use lib.ListN.{length, take, length-take}
 use Rattle.text.specs.Put.{rows, Placed}
 use Rattle.listing.specs.Listing.{counts, siteLine, siteIf, siteLines, accepted as acceptedText, refused as refusedText}
 use Rattle.lowering.specs.declared.Site.{Site}
+use Rattle.answers.specs.Translation.{accepted, translation, lentAfter}
+use Rattle.answers.specs.Claims.{wordsOf}
+use Rattle.answers.proofs.Promises.{translations}
 use Rattle.translation.specs.declared.Sites.{Sites}
 use Rattle.translation.specs.declared.Sites.the-variants.{None, One, Two}
 use Rattle.translation.specs.declared.Translated.{Translated}
 use Rattle.translation.specs.declared.Translated.the-variants.{Accepted, Refused}
-use Rattle.translation.specs.Translation.{Told, accepted, listed, told, translation, lentAfter}
-use Rattle.translation.specs.Claims.{wordsOf}
-use Rattle.translation.proofs.Promises.{translations}
+use Rattle.translation.specs.Told.{listed, told}
 use Rattle.blockwords.specs.Text.{siteText, textOf}
 
 nothing-behind : (xs : List ℕ) → xs ++ [] ≡ xs

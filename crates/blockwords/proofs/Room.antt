@@ -11,9 +11,9 @@ use Rattle.lowering.specs.Steps.{blockSteps}
 use Rattle.lowering.specs.Compile.{blockCode, blockWords, bodyOffset, starts, targets, zipSites, sites}
 use Rattle.bounds.proofs.Sites.{sited}
 use Rattle.listing.proofs.Room.{nine, counts-le, site-le, refused-le}
-use Rattle.translation.specs.Translation.{Told, accepted, refused, translation, lentAfter}
-use Rattle.translation.proofs.Cases.{Ends, faulty, short, fits, ends}
-use Rattle.translation.proofs.Promises.{translations}
+use Rattle.answers.specs.Translation.{Told, accepted, refused, translation, lentAfter}
+use Rattle.answers.proofs.Cases.{Ends, faulty, short, fits, ends}
+use Rattle.answers.proofs.Promises.{translations}
 use Rattle.blockwords.specs.Text.{siteText, textOf, lent, answerText}
 
 -- ---- at most two sites

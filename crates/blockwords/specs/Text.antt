@@ -5,7 +5,7 @@ use lib.ListN.{take, replicate}
 use Rattle.text.specs.Put.{rows}
 use Rattle.listing.specs.Listing.{counts, siteLine, refused as refusedText}
 use Rattle.lowering.specs.declared.Site.{Site}
-use Rattle.translation.specs.Translation.{Told, accepted, refused, translation, lentAfter}
+use Rattle.answers.specs.Translation.{Told, accepted, refused, translation, lentAfter}
 
 -- a line for each chain site
 unfoldable pub siteText : List Site → List ℕ

@@ -1,13 +1,12 @@
 // Operations that move groups of registers (kinds 40 to 44), each as the steps of the definition's line for it; i is the operation's
 // position.
 ghost use mathlib.Core.Path.{_≡_};
-ghost use mathlib.Core.Bool.{cond, true, false};
+ghost use mathlib.Core.Bool.{true, false};
 ghost use mathlib.Core.List.{reverse};
-ghost use Prim.Native.Nat.{ℕ, zero, _+_, _-_, _<_};
-ghost use lib.Dec.{ltb};
-ghost use Rattle.block.specs.Block.{members, span as spanOf, saved};
+ghost use Prim.Native.Nat.{ℕ, zero, _+_, _<_};
+ghost use Rattle.block.specs.Block.{members, saved};
 ghost use Rattle.lowering.specs.Given.{given};
-ghost use Rattle.lowering.specs.Steps.{Step as Meant, lowered, moveWord, moveWords, moveBase, moveOffset, push, pop, pushAll, popAll};
+ghost use Rattle.lowering.specs.Steps.{Step as Meant, lowered, moveWord, moveWords, moveBase, push, pop, pushAll, popAll};
 ghost use Rattle.lower.specs.Lowers.{Lowers};
 use block::Addresses;
 use block::Base;
@@ -111,30 +110,6 @@ fn move_words(
 }
 
 // ---- BlockMove
-// Four bytes for each register of a mask.
-fn span(mask: u16) -> u32
-    ensures { λ r. ⌜ r ≡ spanOf mask ⌝ }
-{
-    4 * u32::count_ones(mask as u32)
-}
-
-// Where the words start, from the base on.
-fn start(down: bool, bytes: u32) -> u32
-    ensures { λ r. ⌜ r ≡ moveOffset down bytes ⌝ }
-{
-    if down {
-        return std::num::wrapping_sub_u32(0, bytes);
-    }
-    0
-}
-
-// Where the base is then, from the start on.
-fn ahead(down: bool, bytes: u32) -> u32
-    ensures { λ r. ⌜ r ≡ cond down 0 bytes ⌝ }
-{
-    if down { 0 } else { bytes }
-}
-
 // With post, the base behind the words.
 fn set_base(
     out: &mut [u32],
@@ -149,7 +124,7 @@ fn set_base(
     ensures { λ p. ⌜ ((mem : Memory) (addr : Addresses) → Lowers (given lay mem addr) (moveBase post down bytes r) (now (out .entry)) (now (tab .entry)) q (now (out .exit)) (now (tab .exit)) p) ⌝ }
 {
     if post {
-        let q = lower::add_imm(out, tab, q, 0, KEEP, ahead(down, bytes));
+        let q = lower::add_imm(out, tab, q, 0, KEEP, spans::ahead(down, bytes));
         return lower::st_reg(out, tab, q, lay, 0, r);
     }
     q
@@ -172,9 +147,9 @@ pub fn block_move(
 ) -> Lowered
     ensures { λ p. ⌜ ((next : ℕ) → Lowers (given lay mem addr) (lowered (Fast.BlockMove base mask store post down) i next) (now (out .entry)) (now (tab .entry)) q (now (out .exit)) (now (tab .exit)) p) ⌝ }
 {
-    let bytes = span(mask);
+    let bytes = spans::span(mask);
     let q = lower::ld_reg(out, tab, q, lay, 0, base);
-    let q = lower::add_imm(out, tab, q, KEEP, 0, start(down, bytes));
+    let q = lower::add_imm(out, tab, q, KEEP, 0, spans::start(down, bytes));
     let q = move_words(out, tab, q, lay, mem, addr, store, i, mask);
     set_base(out, tab, q, lay, post, down, bytes, base)
 }
@@ -221,20 +196,6 @@ fn pop_reg(
     lower::st_field(out, tab, q, lay.sp, 0)
 }
 
-// The lowest of the registers that n names: n or 4.
-fn bot(n: u8) -> u8
-    ensures { λ r. ⌜ r ≡ cond (ltb n 4) n 4 ⌝ }
-{
-    if n < 4 { n } else { 4 }
-}
-
-// How many they are: up to 3 or n.
-fn count_of(n: u8) -> u8
-    ensures { λ r. ⌜ r ≡ cond (ltb n 4) (4 - n) (n - 3) ⌝ }
-{
-    if n < 4 { 4 - n } else { n - 3 }
-}
-
 // Those registers to the stack, from the highest down.
 fn push_regs(
     out: &mut [u32],
@@ -248,9 +209,9 @@ fn push_regs(
 ) -> Lowered
     ensures { λ p. ⌜ (Lowers (given lay mem addr) (pushAll i (reverse (saved n))) (now (out .entry)) (now (tab .entry)) q (now (out .exit)) (now (tab .exit)) p) ⌝ }
 {
-    let low = bot(n);
+    let low = spans::bot(n);
     let mut q = q;
-    let mut left = count_of(n);
+    let mut left = spans::count_of(n);
     while 0 < left {
         left -= 1;
         q = push_reg(out, tab, q, lay, mem, addr, i, low + left);
@@ -271,8 +232,8 @@ fn pop_regs(
 ) -> Lowered
     ensures { λ p. ⌜ (Lowers (given lay mem addr) (popAll i (saved n)) (now (out .entry)) (now (tab .entry)) q (now (out .exit)) (now (tab .exit)) p) ⌝ }
 {
-    let low = bot(n);
-    let many = count_of(n);
+    let low = spans::bot(n);
+    let many = spans::count_of(n);
     let mut q = q;
     let mut done: u8 = 0;
     while done < many {

@@ -5,7 +5,7 @@ use mathlib.Core.List.{List}
 use Prim.Native.Nat.{ℕ, zero, suc, _≤_, _<_, zero-le}
 use native.Mathlib.Omega.{arith}
 use lib.ListN.{length, getD, List·getD-eq-default}
-use Rattle.operands.specs.Operation.{_gives_, _then_}
+use Rattle.operands.specs.Faults.{_gives_, _then_}
 
 -- a table's default, beyond its end
 pub beyond : {A : Type 0} (l : List A) (d : A) (i : ℕ) → length l ≤ i → d ≡ getD l i d

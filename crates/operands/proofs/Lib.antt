@@ -1,4 +1,2 @@
 pub mod Laws
 pub mod Table
-pub mod Contents
-pub mod Fitting

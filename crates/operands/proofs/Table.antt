@@ -1,17 +1,18 @@
 -- The table of kinds: rules of all of its rows.
-use mathlib.Core.Path.{_≡_, refl, sym, ap₂}
+use mathlib.Core.Path.{_≡_, refl, sym, _∙_}
 use mathlib.Core.Bool.{Bool, true, false, _&&_}
 use mathlib.Core.List.{List, [], _∷_}
 use Prim.Native.Nat.{ℕ, zero, suc, _+_, _<_, _≤_}
 use native.Mathlib.Omega.{arith}
+use native.Mathlib.Nat.{not-suc-le-zero, le-of-suc-le-suc}
+use borrow.Author.Tests.{eqb-true}
 use lib.Dec.{T, leb, eqb, leb→le, eqb→eq}
 use lib.ListN.{length, getD, take}
 use lib.Seq.{getD-take}
 use Rattle.block.specs.declared.Fast.the-variants.{Nop}
-use Rattle.block.specs.Block.{moved}
-use Rattle.operands.specs.Kinds.{Class, fits, Kind, kind, kinds, kindAt, fastOf}
-use Rattle.operands.specs.Rows.{fitFrom}
-use Rattle.operands.specs.Operation.{operand, operands, operandsFit}
+use Rattle.block.specs.Block.{kindOf, moved}
+use Rattle.operands.specs.Kinds.{Kind, kind, kinds, kindAt, fastOf}
+use Rattle.operands.proofs.Laws.{and-true-both}
 
 -- ---- a test that holds of each row
 
@@ -35,24 +36,6 @@ pub at-most-six : (k : ℕ) → length (kindAt k .operands) ≤ 6
 unfolding short
 at-most-six k = leb→le (length (kindAt k .operands)) 6 (row short kinds _ tt tt k)
 
--- ---- six operands are enough
-
-operand-at : (p : List ℕ) (i : ℕ) → i < 6 → getD (operands p) i 0 ≡ operand p i
-operand-at p zero h = refl
-operand-at p (suc zero) h = refl
-operand-at p (suc (suc zero)) h = refl
-operand-at p (suc (suc (suc zero))) h = refl
-operand-at p (suc (suc (suc (suc zero)))) h = refl
-operand-at p (suc (suc (suc (suc (suc zero))))) h = refl
-operand-at p (suc (suc (suc (suc (suc (suc i)))))) h = absurd (omega arith)
-
-fit-from : (cs : List Class) (p : List ℕ) (i : ℕ) → i + length cs ≤ 6 → fitFrom cs (operands p) i ≡ operandsFit cs p i
-fit-from [] p i h = refl
-fit-from (c ∷ cs) p i h = ap₂ (λ (x : ℕ) (b : Bool). fits c x && b) (operand-at p i (omega arith)) (fit-from cs p (suc i) (omega arith))
-
-pub fit-all : (k : ℕ) (p : List ℕ) → fitFrom (kindAt k .operands) (operands p) 0 ≡ operandsFit (kindAt k .operands) p 0
-fit-all k p = fit-from (kindAt k .operands) p 0 (omega (arith, at-most-six k))
-
 -- ---- kinds 0 to 39 are no groups
 
 still : (ℕ → ℕ) → Kind → Bool
@@ -64,3 +47,25 @@ none-moved k xs h =
     let d : Kind = kind [] (λ x. Nop) in
     let t = row (still (λ i. getD xs i 0)) (take 40 kinds) d tt tt k in
     sym (eqb→eq _ 0 (rw (getD-take 40 kinds k d h) at t))
+
+-- ---- a kind's number
+
+-- rows that make operations of the numbers i, i + 1 .., whatever their operands
+abbrev numbered : (ℕ → ℕ) → ℕ → List Kind → Bool
+numbered x i [] = true
+numbered x i (r ∷ rs) = eqb (kindOf (r .fast x)) i && numbered x (suc i) rs
+
+number-from : (x : ℕ → ℕ) (i : ℕ) (rs : List Kind) (d : Kind) → numbered x i rs ≡ true
+    → (k : ℕ) → k < length rs → kindOf (getD rs k d .fast x) ≡ i + k
+number-from x i [] d h k l = absurd (not-suc-le-zero l)
+number-from x i (r ∷ rs) d h zero l =
+    let e : kindOf (r .fast x) ≡ i = eqb-true _ _ (and-true-both (eqb (kindOf (r .fast x)) i) _ h .0) in
+    e ∙ omega arith
+number-from x i (r ∷ rs) d h (suc k) l =
+    let rest = and-true-both (eqb (kindOf (r .fast x)) i) (numbered x (suc i) rs) h .1 in
+    let e : kindOf (getD rs k d .fast x) ≡ suc i + k = number-from x (suc i) rs d rest k (le-of-suc-le-suc l) in
+    e ∙ omega arith
+
+-- each row of the table makes an operation of its own number
+pub kind-number : (k : ℕ) (xs : List ℕ) → k < 45 → kindOf (fastOf k xs) ≡ k
+kind-number k xs h = number-from (λ i. getD xs i 0) 0 kinds _ refl k h ∙ omega arith

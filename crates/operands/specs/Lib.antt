@@ -1,4 +1,4 @@
+pub mod Faults
 pub mod Kinds
 pub mod Numbers
-pub mod Operation
 pub mod Rows

@@ -1,12 +1,9 @@
--- What the code makes of a kind's operands, and of an operation with its fault.
+-- What the code makes of a kind's operands.
 use mathlib.Core.Bool.{Bool, true, _&&_}
 use mathlib.Core.List.{List, [], _∷_}
-use Prim.Native.Nat.{ℕ, zero, suc}
+use Prim.Native.Nat.{ℕ, suc}
 use lib.ListN.{length, getD}
-use Rattle.block.specs.declared.BOp.{BOp}
 use Rattle.operands.specs.declared.rows.Shape.{Shape}
-use Rattle.operands.specs.declared.Operation.{Operation}
-use Rattle.operands.specs.declared.Operation.the-variants.{Fault, Good}
 use Rattle.operands.specs.Kinds.{Class, fits, kindAt}
 
 -- the operands from the i-th on are in range
@@ -16,8 +13,3 @@ fitFrom (c ∷ cs) xs i = fits c (getD xs i 0) && fitFrom cs xs (suc i)
 
 abbrev pub shapeOf : ℕ → List ℕ → Shape
 shapeOf k xs = record { count = length (kindAt k .operands); fit = fitFrom (kindAt k .operands) xs 0 }
-
--- an operation without a fault, or its fault
-abbrev pub judged : ℕ → BOp → Operation
-judged zero o = Good o
-judged (suc f) o = Fault (suc f)

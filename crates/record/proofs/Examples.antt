@@ -1,5 +1,5 @@
--- Document 01's examples, by computation of the definition: the empty block of the listing, and an example of each of the faults 1 to 9;
--- and groups on both sides of their tests.
+-- Document 01's examples, by computation of the definition: the empty block of the listing, and an example of each of reading's faults;
+-- and layouts and groups on both sides of their tests.
 use mathlib.Core.Path.{_≡_, refl}
 use mathlib.Core.List.{List, [], _∷_, _++_}
 use Prim.Native.Nat.{ℕ, zero, suc, _/_, _%_}
@@ -16,16 +16,25 @@ abbrev zeros : ℕ → List ℕ
 zeros zero = []
 zeros (suc n) = 0 ∷ zeros n
 
--- fields 01 to 04 as the listing has them, but for sp, the lengths of RAM and XIP, and the block's address
-abbrev fields : (sp ram xip pc0 : ℕ) → List ℕ
-fields sp ram xip pc0 =
-    (1 ∷ 20 ∷ 0 ∷ word 0) ++ word sp ++ word 68 ++ word 72 ++ word 76
-    ++ (2 ∷ 17 ∷ 0 ∷ word 0x01000000) ++ word ram ++ word 0x02000000 ++ word xip ++ (0 ∷ [])
+abbrev layout : (regs sp rets pc hold : ℕ) → List ℕ
+layout regs sp rets pc hold = (1 ∷ 20 ∷ 0 ∷ word regs) ++ word sp ++ word rets ++ word pc ++ word hold
+
+-- fields 02 to 04 as the listing has them, but for the lengths of RAM and XIP, and the block's address
+abbrev behind : (ram xip pc0 : ℕ) → List ℕ
+behind ram xip pc0 =
+    (2 ∷ 17 ∷ 0 ∷ word 0x01000000) ++ word ram ++ word 0x02000000 ++ word xip ++ (0 ∷ [])
     ++ (3 ∷ 24 ∷ 0 ∷ zeros 24)
     ++ (4 ∷ 4 ∷ 0 ∷ word pc0)
 
+abbrev fields : (ram xip pc0 : ℕ) → List ℕ
+fields ram xip pc0 = layout 0 64 68 72 76 ++ behind ram xip pc0
+
 abbrev regions : (ram xip : ℕ) → List ℕ
-regions ram xip = fields 64 ram xip 0x02000000
+regions ram xip = fields ram xip 0x02000000
+
+-- a record with this layout
+abbrev laid : (regs sp rets pc hold : ℕ) → List ℕ
+laid regs sp rets pc hold = layout regs sp rets pc hold ++ behind 0x00010000 0x00100000 0x02000000
 
 abbrev listing : List ℕ
 listing = regions 0x00010000 0x00100000
@@ -80,10 +89,20 @@ fault-4 : answer (listing ++ (5 ∷ 11 ∷ 0 ∷ 1 ∷ 2 ∷ 0 ∷ word 16) ++ w
 unfolding answer
 fault-4 = refl
 
--- sp = 62
-fault-5 : answer (fields 62 0x00010000 0x00100000 0x02000000) ≡ Refused 5 0
+-- sp = 16384
+fault-5 : answer (laid 0 16384 68 72 76) ≡ Refused 5 0
 unfolding answer
 fault-5 = refl
+
+-- "sp = 62 now answers 14"
+fault-14 : answer (laid 0 62 68 72 76) ≡ Refused 14 0
+unfolding answer
+fault-14 = refl
+
+-- sp in the last of regs' 64 bytes
+fault-15 : answer (laid 0 60 68 72 76) ≡ Refused 15 0
+unfolding answer
+fault-15 = refl
 
 -- RAM length 3
 fault-6 : answer (regions 3 0x00100000) ≡ Refused 6 23
@@ -91,9 +110,37 @@ unfolding answer
 fault-6 = refl
 
 -- 04000000
-fault-7 : answer (fields 64 0x00010000 0x00100000 0x04000000) ≡ Refused 7 70
+fault-7 : answer (fields 0x00010000 0x00100000 0x04000000) ≡ Refused 7 70
 unfolding answer
 fault-7 = refl
+
+-- ---- layouts: "the whole layout is tested for 5, then for alignment, then for overlap"
+
+-- regs plus 60 is 16380, and 16384; an offset of 16380, and of 16383
+edges :
+    (answer (laid 16320 0 4 8 12) ≡ Accepted)
+    × (answer (laid 16324 0 4 8 12) ≡ Refused 5 0)
+    × (answer (laid 16 12 8 4 16380) ≡ Accepted)
+    × (answer (laid 16 12 8 4 16383) ≡ Refused 14 0)
+unfolding answer
+edges = (refl, refl, refl, refl)
+
+-- 5 of the last place, behind an unaligned and behind an overlapping one; 14 of the last place, behind two that overlap; a place that is
+-- unaligned and overlaps
+orders :
+    (answer (laid 1 68 72 76 16384) ≡ Refused 5 0)
+    × (answer (laid 0 64 64 72 4294967292) ≡ Refused 5 0)
+    × (answer (laid 0 64 64 72 78) ≡ Refused 14 0)
+    × (answer (laid 2 0 4 8 12) ≡ Refused 14 0)
+unfolding answer
+orders = (refl, refl, refl, refl)
+
+-- 14 and 15 come before RAM's length
+before-6 :
+    (answer (layout 0 62 68 72 76 ++ behind 3 0x00100000 0x02000000) ≡ Refused 14 0)
+    × (answer (layout 0 64 64 72 76 ++ behind 3 0x00100000 0x02000000) ≡ Refused 15 0)
+unfolding answer
+before-6 = (refl, refl)
 
 -- ---- groups: "a group that moves more bytes (four for each word, rets and pc included) than the RAM's or the XIP's length answers 4"
 

@@ -1,11 +1,11 @@
--- A fault of reading has a number from 1 to 9 and a place in the record or at its end, so number and place tell the answer: `told`, at the
--- end. The faults are gone through in the order of the definition.
-use mathlib.Core.Path.{_≡_, refl}
-use mathlib.Core.Bool.{Bool, true, false, not, _||_}
-use mathlib.Core.List.{List}
+-- A fault of reading has one of the listed numbers and a place in the record or at its end, so number and place tell the answer: `told`, at
+-- the end. The faults are gone through in the order of the definition; that each number stands in the list is computed.
+use mathlib.Core.Path.{_≡_, refl, ap, _∙_}
+use mathlib.Core.Bool.{Bool, true, false, not, _||_, or-true}
+use mathlib.Core.List.{List, _∷_}
 use Prim.Native.Nat.{ℕ, zero, suc, _+_, _*_, _%_, _<_, _≤_}
 use native.Mathlib.Omega.{arith}
-use borrow.Author.Tests.{leb-false}
+use borrow.Author.Tests.{leb-false, ne-eqb}
 use lib.Dec.{leb, ltb, eqb}
 use lib.ListN.{length}
 use Rattle.block.specs.declared.Layout.{Layout}
@@ -13,105 +13,121 @@ use Rattle.block.specs.declared.Memory.{Memory}
 use Rattle.block.specs.declared.Block.{Block}
 use Rattle.block.specs.Block.{moved}
 use Rattle.operands.specs.Kinds.{kinds, kindAt, fastOf}
-use Rattle.operands.specs.Operation.{operands, operandsFit, tooLong}
-use Rattle.record.specs.Record.{_gives_, _then_, byteAt, num32, payloadLength, payload, cut, fieldFault, layoutOf, any, far}
-use Rattle.record.specs.Record.{unaligned, spans, overlap, layoutFault, regionFault, memoryFault, startFault, contentsFault}
-use Rattle.record.specs.Record.{operationOf, lastJumps, operationFault, Answer, Accepted, Refused, Reading, refusedOr, push, endOr}
-use Rattle.record.specs.Record.{operations, header, layoutField, memoryField, addressesField, startField, reading}
-use Rattle.record.specs.Record.{numberOf, placeOf, Told}
-use Rattle.record.proofs.Laws.{layout-whole, memory-whole, addresses-whole}
+use Rattle.operation.specs.Operation.{operands, operandsFit, tooLong}
+use Rattle.fields.specs.Fields.{any, far, unaligned, spans, overlap}
+use Rattle.record.specs.Record.{_gives_, _then_, byteAt, num32, payloadLength, payload, cut, fieldFault, layoutOf, layoutFault}
+use Rattle.record.specs.Record.{regionFault, memoryFault, startFault, contentsFault, operationOf, lastJumps, operationFault}
+use Rattle.record.specs.Record.{Answer, Accepted, Refused, Reading, refusedOr, push, endOr, operations, header}
+use Rattle.record.specs.Record.{layoutField, memoryField, addressesField, startField, reading}
+use Rattle.record.specs.Record.{numberOf, placeOf, readingFaults, among, Told}
+use Rattle.fields.proofs.Laws.{layout-whole, memory-whole, addresses-whole}
 use Rattle.record.proofs.Steps.{faultAt}
 
--- ---- numbers up to 9
+-- ---- numbers of the list
 
-last-le : (t : Bool) {n : ℕ} → n ≤ 9 → (t gives n) ≤ 9
-last-le true h = h
-last-le false h = omega arith
+-- a number of a list is one of the list with another before it
+pub among-behind : (n m : ℕ) (l : List ℕ) → among n l ≡ true → among n (m ∷ l) ≡ true
+among-behind n m l h = ap (λ b. eqb n m || b) h ∙ or-true (eqb n m)
 
-then-le : (m n : ℕ) → m ≤ 9 → n ≤ 9 → (m then n) ≤ 9
-then-le zero n h k = k
-then-le (suc m) n h k = h
+-- no fault, or one of reading's
+record Listed (n : ℕ) : Type 0 where
+  in-list : among n (0 ∷ readingFaults) ≡ true
+
+listed : {n : ℕ} → among n (0 ∷ readingFaults) ≡ true → Listed n
+listed h = record { in-list = h }
+
+last-listed : (t : Bool) {n : ℕ} → Listed n → Listed (t gives n)
+last-listed true h = h
+last-listed false h = listed refl
+
+then-listed : (m n : ℕ) → Listed m → Listed n → Listed (m then n)
+then-listed zero n h k = k
+then-listed (suc m) n h k = h
 
 -- a test, and what follows it
-test-le : (t : Bool) {n m : ℕ} → n ≤ 9 → m ≤ 9 → (t gives n then m) ≤ 9
-test-le t {n} {m} h k = then-le (t gives n) m (last-le t h) k
+test-listed : (t : Bool) {n m : ℕ} → Listed n → Listed m → Listed (t gives n then m)
+test-listed t {n} {m} h k = then-listed (t gives n) m (last-listed t h) k
 
-field-le : (s : List ℕ) (at tag len : ℕ) → fieldFault s at tag len ≤ 9
+field-listed : (s : List ℕ) (at tag len : ℕ) → Listed (fieldFault s at tag len)
 unfolding fieldFault
-field-le s at tag len =
-    test-le (cut s at) (omega arith)
-    (test-le (not (eqb (byteAt s at) tag)) (omega arith) (last-le (not (eqb (payloadLength s at) len)) (omega arith)))
+field-listed s at tag len =
+    test-listed (cut s at) (listed refl)
+    (test-listed (not (eqb (byteAt s at) tag)) (listed refl) (last-listed (not (eqb (payloadLength s at) len)) (listed refl)))
 
-layout-le : (o : Layout) → layoutFault o ≤ 9
+layout-listed : (o : Layout) → Listed (layoutFault o)
 unfolding layoutFault
-layout-le o =
-    test-le (any far (spans o)) (omega arith)
-    (test-le (any unaligned (spans o)) (omega arith) (last-le (overlap (spans o)) (omega arith)))
+layout-listed o =
+    test-listed (any far (spans o)) (listed refl)
+    (test-listed (any unaligned (spans o)) (listed refl) (last-listed (overlap (spans o)) (listed refl)))
 
-region-le : (base len : ℕ) → regionFault base len ≤ 9
+region-listed : (base len : ℕ) → Listed (regionFault base len)
 unfolding regionFault
-region-le base len =
-    test-le (ltb len 4) (omega arith)
-    (test-le (not (eqb (base % 4) 0)) (omega arith) (last-le (ltb 4294967296 (base + len)) (omega arith)))
+region-listed base len =
+    test-listed (ltb len 4) (listed refl)
+    (test-listed (not (eqb (base % 4) 0)) (listed refl) (last-listed (ltb 4294967296 (base + len)) (listed refl)))
 
-memory-le : (p : List ℕ) → memoryFault p ≤ 9
+memory-listed : (p : List ℕ) → Listed (memoryFault p)
 unfolding memoryFault
-memory-le p =
-    then-le _ _ (region-le (num32 p 0) (num32 p 4))
-    (then-le _ _ (region-le (num32 p 8) (num32 p 12)) (last-le (ltb 1 (byteAt p 16)) (omega arith)))
+memory-listed p =
+    then-listed _ _ (region-listed (num32 p 0) (num32 p 4))
+    (then-listed _ _ (region-listed (num32 p 8) (num32 p 12)) (last-listed (ltb 1 (byteAt p 16)) (listed refl)))
 
-contents-le : (m : Memory) (p : List ℕ) → contentsFault m p ≤ 9
+contents-listed : (m : Memory) (p : List ℕ) → Listed (contentsFault m p)
 unfolding contentsFault
-contents-le m p =
+contents-listed m p =
     let row = kindAt (byteAt p 0) in
     let group = tooLong m (moved (fastOf (byteAt p 0) (operands p))) in
-    test-le (ltb (length p) 3) (omega arith)
-    (test-le (leb (length kinds) (byteAt p 0)) (omega arith)
-    (test-le (not (eqb (length p) (3 + 4 * length (row .operands)))) (omega arith)
-    (test-le (ltb 1 (byteAt p 2)) (omega arith)
-    (test-le (not (operandsFit (row .operands) p 0)) (omega arith) (last-le group (omega arith))))))
+    test-listed (ltb (length p) 3) (listed refl)
+    (test-listed (leb (length kinds) (byteAt p 0)) (listed refl)
+    (test-listed (not (eqb (length p) (3 + 4 * length (row .operands)))) (listed refl)
+    (test-listed (ltb 1 (byteAt p 2)) (listed refl)
+    (test-listed (not (operandsFit (row .operands) p 0)) (listed refl) (last-listed group (listed refl))))))
 
-operation-le : (m : Memory) (s : List ℕ) (at n : ℕ) (jumped : Bool) → operationFault m s at n jumped ≤ 9
+operation-listed : (m : Memory) (s : List ℕ) (at n : ℕ) (jumped : Bool) → Listed (operationFault m s at n jumped)
 unfolding operationFault
-operation-le m s at n jumped =
-    test-le (cut s at) (omega arith)
-    (test-le (not (eqb (byteAt s at) 5)) (omega arith)
-    (test-le (leb 32 n) (omega arith) (test-le jumped (omega arith) (contents-le m (payload s at)))))
+operation-listed m s at n jumped =
+    test-listed (cut s at) (listed refl)
+    (test-listed (not (eqb (byteAt s at) 5)) (listed refl)
+    (test-listed (leb 32 n) (listed refl) (test-listed jumped (listed refl) (contents-listed m (payload s at)))))
 
-layout-field-le : (s : List ℕ) → layoutField s ≤ 9
+layout-field-listed : (s : List ℕ) → Listed (layoutField s)
 unfolding layoutField
-layout-field-le s = then-le (fieldFault s 0 1 20) _ (field-le s 0 1 20) (layout-le (layoutOf (payload s 0)))
+layout-field-listed s = then-listed (fieldFault s 0 1 20) _ (field-listed s 0 1 20) (layout-listed (layoutOf (payload s 0)))
 
-memory-field-le : (s : List ℕ) → memoryField s ≤ 9
+memory-field-listed : (s : List ℕ) → Listed (memoryField s)
 unfolding memoryField
-memory-field-le s = then-le (fieldFault s 23 2 17) _ (field-le s 23 2 17) (memory-le (payload s 23))
+memory-field-listed s = then-listed (fieldFault s 23 2 17) _ (field-listed s 23 2 17) (memory-listed (payload s 23))
 
-addresses-field-le : (s : List ℕ) → addressesField s ≤ 9
+addresses-field-listed : (s : List ℕ) → Listed (addressesField s)
 unfolding addressesField
-addresses-field-le s = field-le s 43 3 24
+addresses-field-listed s = field-listed s 43 3 24
 
-start-le : (a : ℕ) → startFault a ≤ 9
+start-listed : (a : ℕ) → Listed (startFault a)
 unfolding startFault
-start-le a = last-le (ltb a 0x02000000 || ltb 0x03ffffff a) (omega arith)
+start-listed a = last-listed (ltb a 0x02000000 || ltb 0x03ffffff a) (listed refl)
 
-start-field-le : (s : List ℕ) → startField s ≤ 9
+start-field-listed : (s : List ℕ) → Listed (startField s)
 unfolding startField
-start-field-le s = then-le (fieldFault s 70 4 4) _ (field-le s 70 4 4) (start-le (num32 (payload s 70) 0))
+start-field-listed s = then-listed (fieldFault s 70 4 4) _ (field-listed s 70 4 4) (start-listed (num32 (payload s 70) 0))
 
 -- ---- the record
 
 abbrev Known : ℕ → Answer → Type 0
 Known size Accepted = Unit {0}
-Known size (Refused number place) = (0 < number) × (number ≤ 9) × (place ≤ size)
+Known size (Refused number place) = (0 < number) × (among number readingFaults ≡ true) × (place ≤ size)
 
-known-or : (size f place : ℕ) (next : Reading) → f ≤ 9 → place ≤ size → (f ≡ 0 → Known size (next .answer))
+-- a fault that is listed stands behind the 0
+listed-fault : (n : ℕ) → Listed (suc n) → among (suc n) readingFaults ≡ true
+listed-fault n h = rw (ne-eqb (suc n) 0 (λ e. omega (arith, e))) at (h .in-list)
+
+known-or : (size f place : ℕ) (next : Reading) → Listed f → place ≤ size → (f ≡ 0 → Known size (next .answer))
     → Known size (refusedOr f place next .answer)
 unfolding refusedOr
 known-or size zero place next h l k = k refl
-known-or size (suc f) place next h l k = (omega arith, h, l)
+known-or size (suc f) place next h l k = (omega arith, listed-fault f h, l)
 
 -- the record's end, or a fault at a byte of the record
-known-end : (s : List ℕ) (at f : ℕ) (b : Block) (next : Reading) → f ≤ 9 → Known (length s) (next .answer)
+known-end : (s : List ℕ) (at f : ℕ) (b : Block) (next : Reading) → Listed f → Known (length s) (next .answer)
     → (t : Bool) → leb (length s) at ≡ t → Known (length s) (endOr t b (refusedOr f at next) .answer)
 known-end s at f b next h k true e = tt
 known-end s at f b next h k false e =
@@ -122,26 +138,26 @@ known-operations : (k : ℕ) (s : List ℕ) (at : ℕ) (b : Block) → Known (le
 unfolding operations
 known-operations zero s at b = tt
 known-operations (suc k) s at b =
-    known-end s at (faultAt s at b) b _ (operation-le (b .memory) s at (b .n) (lastJumps (b .n) (b .ops)))
+    known-end s at (faultAt s at b) b _ (operation-listed (b .memory) s at (b .n) (lastJumps (b .n) (b .ops)))
     (known-operations k s (at + 3 + payloadLength s at) (push b (operationOf (payload s at))))
     (leb (length s) at) refl
 
 known : (s : List ℕ) → Known (length s) (reading s .answer)
 unfolding reading
 known s =
-    known-or (length s) (layoutField s) 0 _ (layout-field-le s) (omega arith)
-    (λ l. known-or (length s) (memoryField s) 23 _ (memory-field-le s) (omega (arith, layout-whole s l .1 .inside))
-    (λ m. known-or (length s) (addressesField s) 43 _ (addresses-field-le s) (omega (arith, memory-whole s m .1 .inside))
-    (λ a. known-or (length s) (startField s) 70 _ (start-field-le s) (omega (arith, addresses-whole s a .1 .inside))
+    known-or (length s) (layoutField s) 0 _ (layout-field-listed s) (omega arith)
+    (λ l. known-or (length s) (memoryField s) 23 _ (memory-field-listed s) (omega (arith, layout-whole s l .1 .inside))
+    (λ m. known-or (length s) (addressesField s) 43 _ (addresses-field-listed s) (omega (arith, memory-whole s m .1 .inside))
+    (λ a. known-or (length s) (startField s) 70 _ (start-field-listed s) (omega (arith, addresses-whole s a .1 .inside))
     (λ t. known-operations 33 s 77 (header s)))))
 
 zero-accepted : (size : ℕ) (a : Answer) → Known size a → numberOf a ≡ 0 → a ≡ Accepted
 zero-accepted size Accepted k e = refl
 zero-accepted size (Refused number place) k e = absurd (omega arith)
 
-number-le : (size : ℕ) (a : Answer) → Known size a → numberOf a ≤ 9
-number-le size Accepted k = omega arith
-number-le size (Refused number place) k = k .1
+number-known : (size : ℕ) (a : Answer) → Known size a → (number place : ℕ) → a ≡ Refused number place → among number readingFaults ≡ true
+number-known size Accepted k number place e = let z : _≡_ {A = ℕ} 0 1 = cc in absurd (omega arith)
+number-known size (Refused n p) k number place e = let same : n ≡ number = cc in rw same at (k .1)
 
 place-le : (size : ℕ) (a : Answer) → Known size a → placeOf a ≤ size
 place-le size Accepted k = omega arith
@@ -154,6 +170,6 @@ told s =
       number = refl;
       place = refl;
       accepted = zero-accepted (length s) a (known s);
-      known = number-le (length s) a (known s);
+      known = number-known (length s) a (known s);
       inside = place-le (length s) a (known s);
     }

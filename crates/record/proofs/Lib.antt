@@ -1,4 +1,3 @@
-pub mod Laws
 pub mod Steps
 pub mod Enough
 pub mod Accepted

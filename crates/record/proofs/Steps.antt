@@ -7,19 +7,19 @@ use native.Mathlib.Omega.{arith}
 use native.Mathlib.Numerals.{add-one}
 use borrow.Author.Tests.{leb-false, le-leb, lt-leb}
 use lib.Dec.{leb, eqb}
-use lib.ListN.{length, getD, set, length-set}
+use lib.ListN.{length, set, length-set}
 use lib.Seq.{getD-set-same}
 use Rattle.block.specs.declared.BOp.{BOp}
 use Rattle.block.specs.declared.Memory.{Memory}
 use Rattle.block.specs.declared.Block.{Block}
 use Rattle.block.specs.Block.{jumping, mayJump}
-use Rattle.operands.specs.declared.Operation.the-variants.{Fault, Good}
-use Rattle.operands.specs.Rows.{judged}
 use Rattle.operands.proofs.Laws.{then-zero, gives-zero}
-use Rattle.operands.proofs.Contents.{Contents, contents-of, jumps}
+use Rattle.operation.specs.declared.Operation.the-variants.{Fault, Good}
+use Rattle.operation.specs.Judged.{judged}
+use Rattle.operation.proofs.Contents.{Contents, contents-of, jumps}
 use Rattle.record.specs.Record.{_gives_, byteAt, payloadLength, payload, cut, operationOf, nop, lastJumps, operationFault}
 use Rattle.record.specs.Record.{Answer, Refused, Reading, accepted, empty, refused, refusedOr, push, operations}
-use Rattle.record.proofs.Laws.{Whole, not-cut, payload-head}
+use Rattle.fields.proofs.Laws.{Whole, not-cut, payload-head}
 
 -- ---- an operation without a fault
 

@@ -6,16 +6,8 @@ ghost use Rattle.block.specs.Checked.{Checked};
 ghost use Rattle.record.specs.Record.{Accepted, empty, fieldFault, refused as refusedAt, header as headerOf};
 ghost use Rattle.record.specs.Record.{operations as operationsOf, reading, Told};
 
-mod fields;
 mod operations;
 
-use crate::fields::addresses_field;
-use crate::fields::addresses_of;
-use crate::fields::layout_field;
-use crate::fields::layout_of;
-use crate::fields::memory_field;
-use crate::fields::memory_of;
-use crate::fields::start_field;
 use crate::operations::read_operation;
 use block::Addresses;
 use block::BOp;
@@ -24,10 +16,17 @@ use block::Fast;
 use block::Layout;
 use block::Memory;
 use block::jumps;
-use operands::Operation;
+use fields::addresses_field;
+use fields::addresses_of;
+use fields::layout_field;
+use fields::layout_of;
+use fields::memory_field;
+use fields::memory_of;
+use fields::start_field;
 use operands::byte;
 use operands::get16;
 use operands::get32;
+use operation::Operation;
 
 // What reading finds: a checked block, or a fault by number and place.
 pub enum Answer {

@@ -2,15 +2,15 @@
 ghost use mathlib.Core.Path.{_≡_};
 ghost use Prim.Native.Nat.{_≤_};
 ghost use lib.ListN.{length};
-ghost use Rattle.operands.specs.Operation.{operationOf};
-ghost use Rattle.operands.specs.Rows.{judged};
+ghost use Rattle.operation.specs.Operation.{operationOf};
+ghost use Rattle.operation.specs.Judged.{judged};
 ghost use Rattle.record.specs.Record.{payload, operationFault};
-use crate::fields::cut;
 use block::Memory;
-use operands::Operation;
+use fields::cut;
 use operands::byte;
-use operands::decode;
 use operands::get16;
+use operation::Operation;
+use operation::decode;
 
 // The field at `at` of a block with this memory, with n operations before it of which the last jumps if `jumped`.
 pub fn read_operation(m: Memory, s: &[u8], at: usize, n: u32, jumped: bool) -> Operation

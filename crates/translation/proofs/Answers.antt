@@ -2,15 +2,11 @@
 use mathlib.Core.Path.{_≡_, refl, sym, ap, ap₂, _∙_}
 use mathlib.Core.Bool.{Bool, true, false}
 use mathlib.Core.List.{List, [], _∷_}
-use Prim.Native.Nat.{ℕ, suc, _<_, _≤_}
+use Prim.Native.Nat.{ℕ}
 use native.Mathlib.Omega.{arith}
 use lib.Dec.{ltb}
 use lib.ListN.{length, take, getD}
 use lib.Seq.{take-all}
-use borrow.Author.Tests.{ltb-true, ltb-false}
-use Rattle.block.specs.declared.Block.{Block}
-use Rattle.block.specs.Checked.{Checked}
-use Rattle.record.specs.declared.Answer.{Answer}
 use Rattle.record.specs.declared.Answer.the-variants.{Accepted as NoFault, Refused as Fault}
 use Rattle.record.specs.declared.Reading.{Reading}
 use Rattle.record.specs.Record.{reading}
@@ -24,27 +20,31 @@ use Rattle.finish.specs.declared.Finished.{Finished}
 use Rattle.finish.specs.declared.Finished.the-variants.{Words, Short as TooFew}
 use Rattle.finish.specs.Finish.{zeros}
 use Rattle.finish.specs.Whole.{laid, told as toldBy}
+use Rattle.answers.specs.Translation.{accepted, blockTold, toldBehind, laidBehind, translation, lentAfter}
+use Rattle.answers.proofs.Promises.{Promised, promised}
 use Rattle.translation.specs.declared.Sites.{Sites}
 use Rattle.translation.specs.declared.Translated.{Translated}
 use Rattle.translation.specs.declared.Translated.the-variants.{Accepted, Refused}
-use Rattle.translation.specs.Translation.{Told, accepted, refused, listed, told, blockTold, toldBehind, laidBehind, translation}
-use Rattle.translation.specs.Translation.{lentAfter}
-use Rattle.translation.proofs.Promises.{Promised, promised}
+use Rattle.translation.specs.Told.{listed, told}
 
 -- ---- the contract, from its first two clauses
 abbrev pub Met : (bytes lent ws : List ℕ) → Translated → Type 0
 Met bytes lent ws r = (told r ≡ translation bytes lent) × ((ws ≡ lentAfter bytes lent) × Promised bytes ws (told r))
 
-met : (bytes lent ws : List ℕ) (r : Translated) → Bytes bytes → told r ≡ translation bytes lent → ws ≡ lentAfter bytes lent → Met bytes lent ws r
+met : (bytes lent ws : List ℕ) (r : Translated) → Bytes bytes → told r ≡ translation bytes lent → ws ≡ lentAfter bytes lent
+    → Met bytes lent ws r
 met bytes lent ws r are e q = (e, (q, promised bytes lent ws (told r) are e q))
 
 -- ---- the sites, out of two arrays
-pub one-site : (n : ℕ) (ps ts : List ℕ) → n ≡ 1 → length ps ≡ 2 → length ts ≡ 2 → record { at = getD ps 0 0; target = getD ts 0 0 } ∷ [] ≡ zipSites (take n ps) (take n ts)
+abbrev site : (ps ts : List ℕ) → ℕ → Site
+site ps ts i = record { at = getD ps i 0; target = getD ts i 0 }
+
+pub one-site : (n : ℕ) (ps ts : List ℕ) → n ≡ 1 → length ps ≡ 2 → length ts ≡ 2 → site ps ts 0 ∷ [] ≡ zipSites (take n ps) (take n ts)
 one-site n (p ∷ ps) (t ∷ ts) e a c = rw e
 one-site n [] ts e a c = absurd (omega arith)
 one-site n (p ∷ ps) [] e a c = absurd (omega arith)
 
-two-of : (ps ts : List ℕ) → length ps ≡ 2 → length ts ≡ 2 → record { at = getD ps 0 0; target = getD ts 0 0 } ∷ record { at = getD ps 1 0; target = getD ts 1 0 } ∷ [] ≡ zipSites ps ts
+two-of : (ps ts : List ℕ) → length ps ≡ 2 → length ts ≡ 2 → site ps ts 0 ∷ site ps ts 1 ∷ [] ≡ zipSites ps ts
 two-of (p ∷ q ∷ []) (t ∷ u ∷ []) a c = refl
 two-of [] ts a c = absurd (omega arith)
 two-of (p ∷ []) ts a c = absurd (omega arith)
@@ -54,7 +54,7 @@ two-of (p ∷ q ∷ []) (t ∷ []) a c = absurd (omega arith)
 two-of (p ∷ q ∷ []) (t ∷ u ∷ v ∷ ts) a c = absurd (omega arith)
 
 pub two-sites : (n : ℕ) (ps ts : List ℕ) → (n ≡ 0 → ⊥) → (n ≡ 1 → ⊥) → length ps ≡ 2 → length ts ≡ 2
-    → record { at = getD ps 0 0; target = getD ts 0 0 } ∷ record { at = getD ps 1 0; target = getD ts 1 0 } ∷ [] ≡ zipSites (take n ps) (take n ts)
+    → site ps ts 0 ∷ site ps ts 1 ∷ [] ≡ zipSites (take n ps) (take n ts)
 two-sites n ps ts z o a c = two-of ps ts a c ∙ ap₂ zipSites (sym (take-all n ps (omega arith))) (sym (take-all n ts (omega arith)))
 
 -- ---- the end of an assembly
@@ -78,7 +78,8 @@ module _ (bytes lent ws : List ℕ) (x : Reading) (are : Bytes bytes) (read : x 
       let f : reading bytes .answer ≡ Fault number place = ap (λ (y : Reading). y .answer) (sym read) ∙ e in
       met bytes lent ws (Refused number place) are (rw f) (rw f q)
 
-  module _ (e : x .answer ≡ NoFault) (fin : Finished) (fin-is : fin ≡ toldBy (blockWords (x .block)) lent) (q : ws ≡ laid (blockWords (x .block)) lent) where
+  module _ (e : x .answer ≡ NoFault) (fin : Finished) (fin-is : fin ≡ toldBy (blockWords (x .block)) lent)
+      (q : ws ≡ laid (blockWords (x .block)) lent) where
     f : reading bytes .answer ≡ NoFault
     f = ap (λ (y : Reading). y .answer) (sym read) ∙ e
 
@@ -93,13 +94,16 @@ module _ (bytes lent ws : List ℕ) (x : Reading) (are : Bytes bytes) (read : x 
     pub met-short : (n : ℕ) → fin ≡ TooFew n → Met bytes lent ws (Refused 10 (length bytes))
     unfolding translation toldBehind blockTold toldBy
     met-short n g =
-        let t : ltb (length lent) (length (blockWords (x .block))) ≡ true = few-only (ltb (length lent) (length (blockWords (x .block)))) (length (blockWords (x .block))) n (sym g ∙ fin-is) in
+        let m = length (blockWords (x .block)) in
+        let t : ltb (length lent) m ≡ true = few-only (ltb (length lent) m) m n (sym g ∙ fin-is) in
         met bytes lent ws (Refused 10 (length bytes)) are (rw (f, ← b-is, t)) words-are
 
     -- a block in the lent room
-    pub met-words : (n : ℕ) (ss : Sites) → fin ≡ Words n → listed ss ≡ zipSites (starts (blockCode (x .block)) 0) (targets (blockSteps (x .block))) → Met bytes lent ws (Accepted n 52 ss)
+    pub met-words : (n : ℕ) (ss : Sites) → fin ≡ Words n
+        → listed ss ≡ zipSites (starts (blockCode (x .block)) 0) (targets (blockSteps (x .block))) → Met bytes lent ws (Accepted n 52 ss)
     unfolding translation toldBehind blockTold toldBy sites
     met-words n ss g h =
-        let t = words-only (ltb (length lent) (length (blockWords (x .block)))) (length (blockWords (x .block))) n (sym g ∙ fin-is) in
-        met bytes lent ws (Accepted n 52 ss) are
-        (rw (f, ← b-is, t .0) (ap₂ (λ m l. accepted m 52 l) (t .1) h ∙ ap (λ o. accepted (length (blockWords (x .block))) o (sites (x .block))) body-is)) words-are
+        let m = length (blockWords (x .block)) in
+        let t = words-only (ltb (length lent) m) m n (sym g ∙ fin-is) in
+        let a = ap₂ (λ k l. accepted k 52 l) (t .1) h ∙ ap (λ o. accepted m o (sites (x .block))) body-is in
+        met bytes lent ws (Accepted n 52 ss) are (rw (f, ← b-is, t .0) a) words-are

@@ -1,6 +1,2 @@
-pub mod Faults
-pub mod Cases
-pub mod Promises
 pub mod WordsNeeded
-pub mod Example
 pub mod Answers

@@ -1,4 +1,1 @@
-pub mod Translation
-pub mod Contract
-pub mod Claims
-pub mod WordsNeeded
+pub mod Told

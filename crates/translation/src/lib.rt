@@ -2,9 +2,10 @@
 ghost use mathlib.Core.Path.{_≡_};
 ghost use Rattle.lowering.specs.Compile.{zipSites};
 ghost use Rattle.lower.specs.Lowers.{atsOf, targetsOf};
-ghost use Rattle.translation.specs.Translation.{listed, told, translation, lentAfter};
-ghost use Rattle.translation.specs.Contract.{Sited, Runs, Meant};
-ghost use Rattle.translation.specs.WordsNeeded.{needTold, wordsNeeded, Exact, Included};
+ghost use Rattle.answers.specs.Translation.{translation, lentAfter};
+ghost use Rattle.answers.specs.Contract.{Sited, Runs, Meant};
+ghost use Rattle.answers.specs.WordsNeeded.{wordsNeeded, Exact, Included};
+ghost use Rattle.translation.specs.Told.{listed, told, needTold};
 use finish::Finished;
 use lowering::Site;
 use record::Answer;

@@ -6,10 +6,11 @@ use native.Mathlib.Omega.{arith}
 use lib.ListN.{length, take, getD, set}
 use Rattle.code.specs.Emit.{lay}
 use Rattle.lowering.specs.declared.Site.{Site}
+use Rattle.answers.specs.Translation.{accepted}
+use Rattle.answers.specs.WordsNeeded.{Need, takes, refusedWith}
 use Rattle.translation.specs.declared.Sites.{Sites}
 use Rattle.translation.specs.declared.Sites.the-variants.{None, One, Two}
-use Rattle.translation.specs.Translation.{accepted, listed}
-use Rattle.translation.specs.WordsNeeded.{Need, takes, refusedWith}
+use Rattle.translation.specs.Told.{listed}
 use Rattle.werfund.specs.Answers.{cellsOf, needCells}
 
 -- one more cell
@@ -39,5 +40,6 @@ module _ (w b v c : ℕ) (ss : Sites) (h : v ≡ w) (k : c ≡ b) where
     pub one-site : ss ≡ One s → 0 ∷ v ∷ c ∷ 1 ∷ p ∷ q ∷ 0 ∷ 0 ∷ [] ≡ cellsOf (accepted w b (listed ss))
     one-site e = rw (e, h, k, i, j)
 
-    pub two-sites : (t : Site) (x y : ℕ) → x ≡ t .at → y ≡ t .target → ss ≡ Two s t → 0 ∷ v ∷ c ∷ 2 ∷ p ∷ q ∷ x ∷ y ∷ [] ≡ cellsOf (accepted w b (listed ss))
+    pub two-sites : (t : Site) (x y : ℕ) → x ≡ t .at → y ≡ t .target → ss ≡ Two s t
+        → 0 ∷ v ∷ c ∷ 2 ∷ p ∷ q ∷ x ∷ y ∷ [] ≡ cellsOf (accepted w b (listed ss))
     two-sites t x y m n e = rw (e, h, k, i, j, m, n)

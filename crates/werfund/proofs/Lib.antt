@@ -1,2 +1,3 @@
 mod Laws
 mod Zero
+pub mod Known

@@ -9,9 +9,9 @@ use Rattle.record.specs.declared.Answer.the-variants.{Accepted, Refused}
 use Rattle.record.specs.Record.{numberOf as faultNumber, reading}
 use Rattle.record.proofs.Faults.{told}
 use Rattle.lowering.specs.Compile.{blockWords}
-use Rattle.translation.specs.Translation.{translation}
-use Rattle.translation.specs.WordsNeeded.{takes, needBehind, wordsNeeded}
-use Rattle.translation.proofs.Cases.{Fits, Ends, faulty, short, fits, ends}
+use Rattle.answers.specs.Translation.{translation}
+use Rattle.answers.specs.WordsNeeded.{takes, needBehind, wordsNeeded}
+use Rattle.answers.proofs.Cases.{Fits, Ends, faulty, short, fits, ends}
 use Rattle.werfund.specs.Answers.{numberOf, needNumber}
 
 abbrev Numbered : Answer → Type 0
@@ -33,7 +33,10 @@ pub zero-only-if : (bytes lent : List ℕ) → numberOf (translation bytes lent)
 zero-only-if bytes lent e = by (ends bytes lent)
   where
     by : Ends bytes lent → Fits bytes lent
-    by (faulty x) = absurd (let n : x .number ≡ 0 = subst (λ t. numberOf t ≡ 0) (x .answer) e in let l : Numbered (Refused (x .number) (x .place)) = subst Numbered (x .fault) (numbered bytes) in omega arith)
+    by (faulty x) =
+        absurd
+        (let n : x .number ≡ 0 = subst (λ t. numberOf t ≡ 0) (x .answer) e in
+        let l : Numbered (Refused (x .number) (x .place)) = subst Numbered (x .fault) (numbered bytes) in omega arith)
     by (short x) = absurd (let n : _≡_ {A = ℕ} 10 0 = subst (λ t. numberOf t ≡ 0) (x .answer) e in omega arith)
     by (fits x) = x
 

@@ -5,10 +5,10 @@ use lib.ListN.{length, take}
 use Rattle.lowering.specs.declared.Site.{Site}
 use Rattle.words.specs.declared.Encoded.{Encoded}
 use Rattle.words.specs.declared.Encoded.the-variants.{Word, Refused}
-use Rattle.translation.specs.Translation.{Told, accepted, refused}
-use Rattle.translation.specs.WordsNeeded.{Need, takes, refusedWith}
+use Rattle.answers.specs.Translation.{Told, accepted, refused}
+use Rattle.answers.specs.WordsNeeded.{Need, takes, refusedWith}
 
--- the fault's number, from 1 to 10; 0 where the record is accepted
+-- the fault's number, 10 or one of reading's; 0 where the record is accepted
 abbrev pub numberOf : Told → ℕ
 numberOf (accepted words body ss) = 0
 numberOf (refused number place) = number
@@ -23,7 +23,7 @@ abbrev pub cellsOf : Told → List ℕ
 cellsOf (accepted words body ss) = 0 ∷ words ∷ body ∷ length ss ∷ take 4 (siteCells ss ++ (0 ∷ 0 ∷ 0 ∷ 0 ∷ []))
 cellsOf (refused number place) = place ∷ 0 ∷ 0 ∷ 0 ∷ 0 ∷ 0 ∷ 0 ∷ 0 ∷ []
 
--- of the words that a block takes: the fault's number, from 1 to 9; 0 where they are counted
+-- of the words that a block takes: the number of reading's fault; 0 where they are counted
 abbrev pub needNumber : Need → ℕ
 needNumber (takes words) = 0
 needNumber (refusedWith number place) = number

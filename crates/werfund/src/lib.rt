@@ -1,11 +1,15 @@
 // The functions that a host calls, by C's convention, with numbers and slices alone. host/werfund.h declares them.
 ghost use mathlib.Core.Path.{_≡_};
+ghost use mathlib.Core.Bool.{true};
+ghost use mathlib.Core.List.{_∷_};
 ghost use lib.ListN.{set};
+ghost use Rattle.record.specs.Record.{readingFaults, among};
 ghost use Rattle.code.specs.Emit.{lay};
 ghost use Rattle.chain.specs.Link.{linked};
-ghost use Rattle.translation.specs.Translation.{accepted, listed, told, translation, lentAfter};
-ghost use Rattle.translation.specs.Contract.{Sited, Runs, Meant};
-ghost use Rattle.translation.specs.WordsNeeded.{needTold, wordsNeeded, Exact, Included};
+ghost use Rattle.answers.specs.Translation.{accepted, translation, lentAfter};
+ghost use Rattle.answers.specs.Contract.{Sited, Runs, Meant};
+ghost use Rattle.answers.specs.WordsNeeded.{wordsNeeded, Exact, Included};
+ghost use Rattle.translation.specs.Told.{listed, told, needTold};
 ghost use Rattle.werfund.specs.Answers.{numberOf, cellsOf, needNumber, needCells, linkAnswer};
 use translation::Needed;
 use translation::Sites;
@@ -95,6 +99,7 @@ pub extern "C" fn werfund_translate(
     ensures { λ r. ⌜ Sited (translation (now (bytes .entry)) (now (words .entry))) ⌝ }
     ensures { λ r. ⌜ Runs (translation (now (bytes .entry)) (now (words .entry))) (now (bytes .entry)) (now (words .exit)) ⌝ }
     ensures { λ r. ⌜ Meant (translation (now (bytes .entry)) (now (words .entry))) (now (bytes .entry)) (now (words .exit)) ⌝ }
+    ensures { λ r. ⌜ among r (0 ∷ 10 ∷ readingFaults) ≡ true ⌝ }
 {
     let t = translation::translate(bytes, words, table);
     put_cells(answer, cells(t));
@@ -131,6 +136,7 @@ pub extern "C" fn werfund_words_needed(
     ensures { λ r. ⌜ now (answer .exit) ≡ lay (needCells (wordsNeeded (now (bytes .entry)))) (now (answer .entry)) ⌝ }
     ensures { λ r. ⌜ Exact (wordsNeeded (now (bytes .entry))) (now (bytes .entry)) ⌝ }
     ensures { λ r. ⌜ Included (wordsNeeded (now (bytes .entry))) (now (bytes .entry)) ⌝ }
+    ensures { λ r. ⌜ among r (0 ∷ readingFaults) ≡ true ⌝ }
 {
     let n = translation::words_needed(bytes, table);
     let cells = need_cells(n);

@@ -71,7 +71,34 @@ impl Block {
     }
 }
 
-/// Why a record is refused: document 01's number, 1 to 10, and the place, an offset in the record. All words that were lent are then 0.
+/// What a fault's number says: the table `WERFUND_FAULTS` of host/werfund.h behind 0, in its order and with its texts.
+fn text(number: u32) -> &'static str {
+    match number {
+        1 => "a field's header or payload is cut, or the record ends before the field with tag 04",
+        2 => "a tag that is not due, or a length that is not the field's",
+        8 => "a 33rd operation",
+        9 => "an operation behind a jump",
+        3 => "an operation's kind above 44",
+        4 => "a flag or an operand out of range, or a group that moves more bytes than RAM or XIP has",
+        5 => "an offset, or regs plus 60, of 16384 or more",
+        14 => "an offset that is no multiple of 4",
+        15 => "two places of the processor record that overlap",
+        6 => "a region shorter than 4, with a base that is no multiple of 4, or that ends above 2^32",
+        7 => "a block's address outside 02000000 to 03ffffff",
+        10 => "more words are needed than lent; the record has no other fault",
+        11 => "a link's body out of reach",
+        12 => "a link's address that is no multiple of 4",
+        _ => "unknown fault",
+    }
+}
+
+/// Why a record is refused: the fault's number, as documents 01 and 02 have it, and the place, an offset in the record. All words that were
+/// lent are then 0. `Display` says what the number means.
+///
+/// ```
+/// let fault = werfund::Fault { number: 14, place: 0 };
+/// assert_eq!(fault.to_string(), "refused 14 0: an offset that is no multiple of 4");
+/// ```
 #[derive(Clone, Copy, Debug, PartialEq, Eq)]
 pub struct Fault {
     pub number: u32,
@@ -80,19 +107,8 @@ pub struct Fault {
 
 impl fmt::Display for Fault {
     fn fmt(&self, f: &mut fmt::Formatter) -> fmt::Result {
-        let what = match self.number {
-            1 => "a field is cut or missing",
-            2 => "a tag is not due, or a length not its field's",
-            3 => "a kind is above 44",
-            4 => "a flag or an operand is out of range, or a group is too long",
-            5 => "an offset is too large, unaligned or overlaps another",
-            6 => "a region is too short, unaligned or ends above 2^32",
-            7 => "the block's address is outside 02000000 to 03ffffff",
-            8 => "there is a 33rd operation",
-            9 => "an operation stands behind a jump",
-            _ => "more words are needed than lent",
-        };
-        write!(f, "refused {} {}: {what}", self.number, self.place)
+        let Fault { number, place } = *self;
+        write!(f, "refused {number} {place}: {}", text(number))
     }
 }
 
@@ -109,11 +125,8 @@ pub enum LinkFault {
 
 impl fmt::Display for LinkFault {
     fn fmt(&self, f: &mut fmt::Formatter) -> fmt::Result {
-        let what = match self {
-            LinkFault::OutOfReach => "the body is out of reach",
-            LinkFault::Unaligned => "an address is no multiple of 4",
-        };
-        write!(f, "not linked {}: {what}", *self as u32)
+        let number = *self as u32;
+        write!(f, "not linked {number}: {}", text(number))
     }
 }
 
@@ -182,8 +195,9 @@ impl Translator {
         })
     }
 
-    /// How many words a record's block takes, before any are lent: lent that many or more, [`translate`](Translator::translate) accepts the record,
-    /// and lent fewer it answers fault 10. Or the first fault, 1 to 9, with which `translate` refuses the record whatever is lent.
+    /// How many words a record's block takes, before any are lent: lent that many or more, [`translate`](Translator::translate) accepts the
+    /// record, and lent fewer it answers fault 10. Or the first fault of reading, never 10, with which `translate` refuses the record
+    /// whatever is lent.
     ///
     /// ```
     /// # fn number(n: u32) -> [u8; 4] { n.to_le_bytes() }
@@ -248,6 +262,7 @@ pub fn link(site: i64, body: i64) -> Result<u32, LinkFault> {
     match linked >> 32 {
         0 => Ok(linked as u32),
         11 => Err(LinkFault::OutOfReach),
-        _ => Err(LinkFault::Unaligned),
+        12 => Err(LinkFault::Unaligned),
+        number => unreachable!("link answers 0, 11 or 12, not {number}"),
     }
 }

@@ -7,7 +7,7 @@ use mathlib.Core.Path.{ap, _∙_}
 use native.Mathlib.Omega.{arith}
 use mathlib.Core.List.{List}
 use Rattle.record.specs.Record.{num32, layoutOf, memoryOf, addressesOf, header}
-use Rattle.record.proofs.Laws.{field-whole, payload-part}
+use Rattle.fields.proofs.Laws.{field-whole, payload-part}
 
 no-block-requires : tie.Need-no-block-requires
 no-block-requires c κs = search needs

@@ -14,7 +14,7 @@ use Rattle.record.specs.Record.{Reading, Accepted, reading, operations, 
 use Rattle.record.proofs.Accepted.{Bytes, answer-checked}
 use Rattle.record.proofs.Faults.{told}
 use Rattle.record.proofs.Steps.{refuse, pass}
-use Rattle.record.proofs.Laws.{layout-whole, memory-whole, addresses-whole, start-whole}
+use Rattle.fields.proofs.Laws.{layout-whole, memory-whole, addresses-whole, start-whole}
 
 promised : (s : List ℕ) {r : Reading} → Bytes s → r ≡ reading s
     → (r ≡ reading s) × ((r .answer ≡ Accepted → Checked (r .block)) × Told s (r .answer))

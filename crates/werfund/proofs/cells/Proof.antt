@@ -1,7 +1,7 @@
 -- `cells` meets its contract.
 use borrow.Author.Needs.{needs}
 use mathlib.Core.Path.{sym, ap, _∙_}
-use Rattle.translation.specs.Translation.{told}
+use Rattle.translation.specs.Told.{told}
 use Rattle.werfund.specs.Answers.{cellsOf}
 use Rattle.werfund.proofs.cells.Statement.{statement}
 use Rattle.werfund.proofs.cells.Tie as tie

@@ -2,7 +2,7 @@
 use borrow.Author.Needs.{needs}
 use mathlib.Core.Path.{sym, ap, _∙_}
 use mathlib.Core.List.{[], _∷_}
-use Rattle.translation.specs.WordsNeeded.{needTold}
+use Rattle.translation.specs.Told.{needTold}
 use Rattle.werfund.specs.Answers.{needCells}
 use Rattle.werfund.proofs.need_cells.Statement.{statement}
 use Rattle.werfund.proofs.need_cells.Tie as tie

@@ -7,9 +7,9 @@ use native.Mathlib.Omega.{arith}
 use borrow.Author.Tests.{le-leb, lt-leb, eq-eqb, ne-eqb}
 use Prim.Native.Nat.{ℕ}
 use mathlib.Core.List.{List}
-use Rattle.operands.specs.Rows.{judged}
+use Rattle.operation.specs.Judged.{judged}
 use Rattle.record.specs.Record.{contentsFault, operationOf, operationFault}
-use Rattle.record.proofs.Laws.{not-cut, payload-range}
+use Rattle.fields.proofs.Laws.{not-cut, payload-range}
 
 cut-requires : tie.Need-cut-requires
 cut-requires c κs = search needs

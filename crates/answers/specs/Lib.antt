@@ -1,0 +1,4 @@
+pub mod Translation
+pub mod Contract
+pub mod Claims
+pub mod WordsNeeded
