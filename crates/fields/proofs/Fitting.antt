@@ -44,8 +44,23 @@ payload-bytes s at h = taken (payloadLength s at) (drop (at + 3) s) (λ i. rw ge
 
 -- ---- field 01
 
-any-none : (f : Span → Bool) (p : Span) (ps : List Span) → any f (p ∷ ps) ≡ false → (f p ≡ false) × (any f ps ≡ false)
-any-none f p ps e = or-false-both (f p) (any f ps) e
+-- of no place of a list the test holds
+abbrev None : (Span → Bool) → List Span → Type 0
+None f [] = Unit {0}
+None f (p ∷ ps) = (f p ≡ false) × None f ps
+
+none : (f : Span → Bool) (ps : List Span) → any f ps ≡ false → None f ps
+none f [] e = tt
+none f (p ∷ ps) e = let x = or-false-both (f p) (any f ps) e in (x .0, none f ps (x .1))
+
+-- no two places of a list meet
+abbrev NoneMeet : List Span → Type 0
+NoneMeet [] = Unit {0}
+NoneMeet (p ∷ ps) = None (meets p) ps × NoneMeet ps
+
+none-meet : (ps : List Span) → overlap ps ≡ false → NoneMeet ps
+none-meet [] e = tt
+none-meet (p ∷ ps) e = let x = or-false-both (any (meets p) ps) (overlap ps) e in (none (meets p) ps (x .0), none-meet ps (x .1))
 
 place : (a n : ℕ) → far (span a (n + 4)) ≡ false → unaligned (span a (n + 4)) ≡ false → Place a n
 place a n f u =
@@ -69,54 +84,25 @@ unfolding layoutFault
 layout-fits o e =
     let x = then-zero (any far (spans o) gives 5) _ e in
     let y = then-zero (any unaligned (spans o) gives 14) _ (x .1) in
-    let ps₀ : List Span = [] in
-    let ps₁ : List Span = span (o .hold) 4 ∷ ps₀ in
-    let ps₂ : List Span = span (o .pc) 4 ∷ ps₁ in
-    let ps₃ : List Span = span (o .rets) 4 ∷ ps₂ in
-    let ps₄ : List Span = span (o .sp) 4 ∷ ps₃ in
-    let f = any-none far (span (o .regs) 64) ps₄ (gives-zero (any far (spans o)) 4 (x .0)) in
-    let f₁ = any-none far (span (o .sp) 4) ps₃ (f .1) in
-    let f₂ = any-none far (span (o .rets) 4) ps₂ (f₁ .1) in
-    let f₃ = any-none far (span (o .pc) 4) ps₁ (f₂ .1) in
-    let f₄ = any-none far (span (o .hold) 4) ps₀ (f₃ .1) in
-    let u = any-none unaligned (span (o .regs) 64) ps₄ (gives-zero (any unaligned (spans o)) 13 (y .0)) in
-    let u₁ = any-none unaligned (span (o .sp) 4) ps₃ (u .1) in
-    let u₂ = any-none unaligned (span (o .rets) 4) ps₂ (u₁ .1) in
-    let u₃ = any-none unaligned (span (o .pc) 4) ps₁ (u₂ .1) in
-    let u₄ = any-none unaligned (span (o .hold) 4) ps₀ (u₃ .1) in
-    let v = or-false-both (any (meets (span (o .regs) 64)) ps₄) (overlap ps₄) (gives-zero (overlap (spans o)) 14 (y .1)) in
-    let v₁ = or-false-both (any (meets (span (o .sp) 4)) ps₃) (overlap ps₃) (v .1) in
-    let v₂ = or-false-both (any (meets (span (o .rets) 4)) ps₂) (overlap ps₂) (v₁ .1) in
-    let v₃ = or-false-both (any (meets (span (o .pc) 4)) ps₁) (overlap ps₁) (v₂ .1) in
-    let r = meets (span (o .regs) 64) in
-    let r₁ = any-none r (span (o .sp) 4) ps₃ (v .0) in
-    let r₂ = any-none r (span (o .rets) 4) ps₂ (r₁ .1) in
-    let r₃ = any-none r (span (o .pc) 4) ps₁ (r₂ .1) in
-    let r₄ = any-none r (span (o .hold) 4) ps₀ (r₃ .1) in
-    let q = meets (span (o .sp) 4) in
-    let q₁ = any-none q (span (o .rets) 4) ps₂ (v₁ .0) in
-    let q₂ = any-none q (span (o .pc) 4) ps₁ (q₁ .1) in
-    let q₃ = any-none q (span (o .hold) 4) ps₀ (q₂ .1) in
-    let t = meets (span (o .rets) 4) in
-    let t₁ = any-none t (span (o .pc) 4) ps₁ (v₂ .0) in
-    let t₂ = any-none t (span (o .hold) 4) ps₀ (t₁ .1) in
-    let w₁ = any-none (meets (span (o .pc) 4)) (span (o .hold) 4) ps₀ (v₃ .0) in
+    let f = none far (spans o) (gives-zero (any far (spans o)) 4 (x .0)) in
+    let u = none unaligned (spans o) (gives-zero (any unaligned (spans o)) 13 (y .0)) in
+    let v = none-meet (spans o) (gives-zero (overlap (spans o)) 14 (y .1)) in
     record {
       regs = place (o .regs) 60 (f .0) (u .0);
-      sp = place (o .sp) 0 (f₁ .0) (u₁ .0);
-      rets = place (o .rets) 0 (f₂ .0) (u₂ .0);
-      pc = place (o .pc) 0 (f₃ .0) (u₃ .0);
-      hold = place (o .hold) 0 (f₄ .0) (u₄ .0);
-      regs-sp = apart (o .regs) 64 (o .sp) 4 (r₁ .0);
-      regs-rets = apart (o .regs) 64 (o .rets) 4 (r₂ .0);
-      regs-pc = apart (o .regs) 64 (o .pc) 4 (r₃ .0);
-      regs-hold = apart (o .regs) 64 (o .hold) 4 (r₄ .0);
-      sp-rets = apart (o .sp) 4 (o .rets) 4 (q₁ .0);
-      sp-pc = apart (o .sp) 4 (o .pc) 4 (q₂ .0);
-      sp-hold = apart (o .sp) 4 (o .hold) 4 (q₃ .0);
-      rets-pc = apart (o .rets) 4 (o .pc) 4 (t₁ .0);
-      rets-hold = apart (o .rets) 4 (o .hold) 4 (t₂ .0);
-      pc-hold = apart (o .pc) 4 (o .hold) 4 (w₁ .0);
+      sp = place (o .sp) 0 (f .1 .0) (u .1 .0);
+      rets = place (o .rets) 0 (f .1 .1 .0) (u .1 .1 .0);
+      pc = place (o .pc) 0 (f .1 .1 .1 .0) (u .1 .1 .1 .0);
+      hold = place (o .hold) 0 (f .1 .1 .1 .1 .0) (u .1 .1 .1 .1 .0);
+      regs-sp = apart (o .regs) 64 (o .sp) 4 (v .0 .0);
+      regs-rets = apart (o .regs) 64 (o .rets) 4 (v .0 .1 .0);
+      regs-pc = apart (o .regs) 64 (o .pc) 4 (v .0 .1 .1 .0);
+      regs-hold = apart (o .regs) 64 (o .hold) 4 (v .0 .1 .1 .1 .0);
+      sp-rets = apart (o .sp) 4 (o .rets) 4 (v .1 .0 .0);
+      sp-pc = apart (o .sp) 4 (o .pc) 4 (v .1 .0 .1 .0);
+      sp-hold = apart (o .sp) 4 (o .hold) 4 (v .1 .0 .1 .1 .0);
+      rets-pc = apart (o .rets) 4 (o .pc) 4 (v .1 .1 .0 .0);
+      rets-hold = apart (o .rets) 4 (o .hold) 4 (v .1 .1 .0 .1 .0);
+      pc-hold = apart (o .pc) 4 (o .hold) 4 (v .1 .1 .1 .0 .0);
     }
 
 -- ---- fields 02 to 04

@@ -1,9 +1,9 @@
 -- A fault of reading has one of the listed numbers and a place in the record or at its end, so number and place tell the answer: `told`, at
 -- the end. The faults are gone through in the order of the definition; that each number stands in the list is computed.
-use mathlib.Core.Path.{_≡_, refl, ap, _∙_}
+use mathlib.Core.Path.{_≡_, refl, sym, ap, _∙_}
 use mathlib.Core.Bool.{Bool, true, false, not, _||_, or-true}
 use mathlib.Core.List.{List, _∷_}
-use Prim.Native.Nat.{ℕ, zero, suc, _+_, _*_, _%_, _<_, _≤_}
+use Prim.Native.Nat.{ℕ, zero, suc, _+_, _*_, _%_, _≤_}
 use native.Mathlib.Omega.{arith}
 use borrow.Author.Tests.{leb-false, ne-eqb}
 use lib.Dec.{leb, ltb, eqb}
@@ -28,6 +28,12 @@ use Rattle.record.proofs.Steps.{faultAt}
 -- a number of a list is one of the list with another before it
 pub among-behind : (n m : ℕ) (l : List ℕ) → among n l ≡ true → among n (m ∷ l) ≡ true
 among-behind n m l h = ap (λ b. eqb n m || b) h ∙ or-true (eqb n m)
+
+-- a number that is none of the list is no fault of reading
+pub none-listed : (m : ℕ) → among m readingFaults ≡ false → (n : ℕ) → among n readingFaults ≡ true → n ≡ m → ⊥
+none-listed m none n h e =
+    let f : false ≡ true = sym none ∙ ap (λ k. among k readingFaults) (sym e) ∙ h in
+    let z : _≡_ {A = ℕ} 0 1 = cc in absurd (omega arith)
 
 -- no fault, or one of reading's
 record Listed (n : ℕ) : Type 0 where
@@ -114,7 +120,7 @@ start-field-listed s = then-listed (fieldFault s 70 4 4) _ (field-listed s 70 4 
 
 abbrev Known : ℕ → Answer → Type 0
 Known size Accepted = Unit {0}
-Known size (Refused number place) = (0 < number) × (among number readingFaults ≡ true) × (place ≤ size)
+Known size (Refused number place) = (among number readingFaults ≡ true) × (place ≤ size)
 
 -- a fault that is listed stands behind the 0
 listed-fault : (n : ℕ) → Listed (suc n) → among (suc n) readingFaults ≡ true
@@ -124,7 +130,7 @@ known-or : (size f place : ℕ) (next : Reading) → Listed f → place ≤ size
     → Known size (refusedOr f place next .answer)
 unfolding refusedOr
 known-or size zero place next h l k = k refl
-known-or size (suc f) place next h l k = (omega arith, listed-fault f h, l)
+known-or size (suc f) place next h l k = (listed-fault f h, l)
 
 -- the record's end, or a fault at a byte of the record
 known-end : (s : List ℕ) (at f : ℕ) (b : Block) (next : Reading) → Listed f → Known (length s) (next .answer)
@@ -153,15 +159,15 @@ known s =
 
 zero-accepted : (size : ℕ) (a : Answer) → Known size a → numberOf a ≡ 0 → a ≡ Accepted
 zero-accepted size Accepted k e = refl
-zero-accepted size (Refused number place) k e = absurd (omega arith)
+zero-accepted size (Refused number place) k e = absurd (none-listed 0 refl number (k .0) e)
 
 number-known : (size : ℕ) (a : Answer) → Known size a → (number place : ℕ) → a ≡ Refused number place → among number readingFaults ≡ true
 number-known size Accepted k number place e = let z : _≡_ {A = ℕ} 0 1 = cc in absurd (omega arith)
-number-known size (Refused n p) k number place e = let same : n ≡ number = cc in rw same at (k .1)
+number-known size (Refused n p) k number place e = let same : n ≡ number = cc in rw same at (k .0)
 
 place-le : (size : ℕ) (a : Answer) → Known size a → placeOf a ≤ size
 place-le size Accepted k = omega arith
-place-le size (Refused number place) k = k .2
+place-le size (Refused number place) k = k .1
 
 pub told : (s : List ℕ) → Told s (reading s .answer)
 told s =
