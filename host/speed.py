@@ -15,7 +15,6 @@ of `translate` are told apart from outside, so that no function has to stay one 
 """
 import os
 import re
-import struct
 import subprocess
 import sys
 import tempfile
@@ -23,7 +22,7 @@ import tempfile
 sys.dont_write_bytecode = True
 TOP = os.path.dirname(os.path.dirname(os.path.abspath(__file__)))
 sys.path.insert(0, os.path.join(TOP, "tools"))
-from block_cases import OPTIONS
+from block_cases import OPTIONS, records as case_records
 
 LIBRARY = os.path.join(TOP, "target/staticlib/libwerfund.a")
 SPEED = os.path.join(TOP, "target/host/speed")
@@ -57,13 +56,10 @@ def cut(records, n):
 
 def longest(last):
     """Of the frozen cases whose kinds are at most `last`, the record whose block has most words, and their number."""
-    cases, at, best = open(os.path.join(TOP, "crates/blockcases/stdin"), "rb").read(), 0, (0, b"")
-    while at < len(cases):
-        size, words, length = (struct.unpack_from("<I", cases, at + k)[0] for k in (0, 16, 56))
-        record = cases[at + 60 : at + 60 + length]
+    best = 0, b""
+    for record, words in case_records(os.path.join(TOP, "crates/blockcases/stdin")):
         if best[0] < words and all(f[3] <= last for f in fields(record)):
             best = words, record
-        at += 4 + size
     return best[1], best[0]
 
 

@@ -29,7 +29,7 @@ LENT = 16384
 AT_ONCE = 1000  # cases
 
 # The oracle's options with the change requests that have landed (tests/oracle/README.md); a request that has one of its own adds it.
-OPTIONS = ["--kinds", "44", "--split5"]
+OPTIONS = ["--kinds", "44", "--split5", "--wordtest"]
 
 
 def public(path):
@@ -122,6 +122,15 @@ def case(lent, record, listing, need):
     rest = struct.pack("<14I", lent, *fault, len(words), body, len(sites), *two, *need, len(record))
     rest += record + struct.pack(f"<{len(words)}I", *words)
     return struct.pack("<I", len(rest)) + rest
+
+
+def records(path):
+    """Record and number of words of each case of a file."""
+    data, at = Path(path).read_bytes(), 0
+    while at < len(data):
+        size, _, _, _, words, *_, length = struct.unpack_from("<15I", data, at)
+        yield data[at + 60 : at + 60 + length], words
+        at += 4 + size
 
 
 def counts(found):

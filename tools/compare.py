@@ -4,7 +4,7 @@
 
 ORACLE_DIR is tests/oracle, ORACLE the program that its build.py makes, and PROGRAM target/bin/blockcases or one like it. For each of ROWS
 the records are drawn, their cases made as by tools/block_cases.py, and PROGRAM is run on them. The exit status is 1 where it finds one that
-differs.
+differs, or where a row has no case.
 """
 import subprocess
 import sys
@@ -18,6 +18,11 @@ TOP = Path(__file__).resolve().parent.parent
 
 # How records become cases, what draws them, and the seeds that stand for SEED.
 ROWS = (
+    ("drawn", "blocks.py SEED 50000 --kinds 44 --damaged 40", "40401 40402"),
+    ("drawn", "blocks.py SEED 20000 --request 2026-04 --damaged 30", "40403"),
+    ("drawn", "blocks.py SEED 10000 --request 2026-04 --damaged 100", "40404"),
+    ("edge", "blocks.py SEED 1000 --request 2026-04 --damaged 0", "40405"),
+    ("cut", "blocks.py SEED 30 --request 2026-04 --damaged 0", "40406"),
     ("drawn", "layouts.py SEED 20000", "30301 30302"),
     ("edge", "layouts.py SEED 4000", "30303"),
     ("drawn", "blocks.py SEED 20000 --request 2026-03 --damaged 80", "30304"),
@@ -40,12 +45,12 @@ ROWS = (
 
 
 def compare(oracle, program, pairs):
-    """The counts of the cases, and whether the program has the same and none that differs."""
+    """The counts of the cases, and whether there is one, and the program has the same counts and none that differs."""
     with tempfile.TemporaryFile() as file:
         counts = block_cases.write(oracle, pairs, file)
         file.seek(0)
         said = subprocess.run([program], stdin=file, capture_output=True, text=True).stdout
-    return counts, said == block_cases.told(counts)
+    return counts, counts[0] > 0 and said == block_cases.told(counts)
 
 
 def main():

@@ -17,7 +17,13 @@ LIST = "## The list\n"
 # The files whose public functions are the entries, and the files of statements that a reader asks for.
 ENTRIES = ("translation/src/lib.rt", "compile/src/lib.rt", "record/src/lib.rt", "werfund/src/lib.rt",
            "a64/src/", "floats/src/", "constants/src/", "chain/src/lib.rt", "blockwords/src/main.rt")
-CLAIMS = ("/specs/Claims.antt", "demand/specs/Claim.antt", "demand/specs/Next.antt", "lowering/specs/Recency.antt")
+CLAIMS = (
+    "/specs/Claims.antt",
+    "demand/specs/Claim.antt",
+    "demand/specs/Next.antt",
+    "lowering/specs/Recency.antt",
+    "lowering/specs/Commit.antt",
+)
 
 # The crates of each group; a crate in none of them stands in the last.
 GROUPS = (

@@ -1,4 +1,4 @@
-/* Compares the lent words at every stop of the walk over a block's patches with what the commit's words give (docs/vectors.md).
+/* Compares the lent words at every stop of the walk over a block's patches with what the oracle's words give (docs/vectors.md).
  *
  *     walk_stops < BLOCKS
  *

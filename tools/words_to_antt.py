@@ -1,24 +1,28 @@
 """Turns records with their listings into equations on the definitions of reading and lowering.
 
-    python3 tools/words_to_antt.py RECORDS OUT [--most WORDS]
+    python3 tools/words_to_antt.py RECORDS OUT [--most WORDS] [--commit LISTING]
 
 RECORDS is a file of records in the format of the oracle's vectors: a case begins with `> name words-lent record` (hexadecimal), and the
 lines up to the next `>` are its listing. OUT is the `proofs` folder of a crate that depends on record, lowering, code, block and arm; it
 gets `Words.antt` and `Lib.antt`. For each accepted record, of at most WORDS words, four equations say that the definitions give these
 very words and these very sites (by position), that the patches are where a word of the listing before the pool has a distance, by its
-opcode, and that behind half of them the words are the listing's with the distances of the others 0. Each holds by computation, so that
-`rt check` of the crate compares every word.
+opcode, and that behind half of them the words are the listing's with the distances of the others 0. LISTING is a command that prints a
+record's listing as the commit has it, without the tests of 2026-04: with it a fifth equation says that `commitWords` are its words. Each
+holds by computation, so that `rt check` of the crate compares every word.
 """
 import argparse
 import os
+import shlex
+import subprocess
 
 UNFOLDED = {
     "block.specs.Block": "places upFrom",
     "record.specs.Record": "reading num16 num32 num64 fieldFault layoutFault regionFault memoryFault startFault contentsFault operationOf "
                            "operationFault operations header refusedOr layoutField memoryField addressesField startField",
     "lowering.specs.Compile": "blockWords blockLines blockCode sites starts",
-    "lowering.specs.Fragments": "addImm brkFirst even loads tryRegion extended oddTest mapTest stores call exitImm chain ind hold checkBrk "
-                                "fork limit load store stepCode stepCache stepsCode opening closing",
+    "lowering.specs.Commit": "commitWords commitCode",
+    "lowering.specs.Fragments": "addImm brkFirst even loads tryRegion extended alignTest mapTest stores call exitImm chain ind hold "
+                                "checkBrk fork limit load store stepCode stepCache stepsCode opening closing",
     "lowering.specs.Cache": "position latest oldest chosen spill slotFor seated ldReg stReg stored flushFrom flush reloadFrom reload",
     "lowering.specs.Instrs": "mov32",
     "lowering.specs.Steps": "moveWords pushAll popAll lowered opSteps opsSteps blockSteps",
@@ -30,13 +34,13 @@ UNFOLDED = {
 # The common exit, behind which the pool begins.
 CLOSING = "a94573fb a9446bf9 a94363f7 a9425bf5 a94153f3 a8c67bfd d65f03c0".split()
 
-# The instructions with a distance by the Arm manual: mask, opcode, and the bits of the distance.
+# The instructions with a distance in words by the Arm manual: mask, opcode, and the bits of the distance.
 DISTANCES = (
     (0xFC000000, 0x14000000, 0x03FFFFFF),  # B
     (0xFF000010, 0x54000000, 0x00FFFFE0),  # B.cond
     (0x7E000000, 0x34000000, 0x00FFFFE0),  # CBZ, CBNZ
     (0x7E000000, 0x36000000, 0x0007FFE0),  # TBZ, TBNZ
-    (0x9F000000, 0x10000000, 0x60FFFFE0),  # ADR
+    (0xFF000000, 0x10000000, 0x00FFFFE0),  # ADR of a multiple of 4
     (0xFF000000, 0x58000000, 0x00FFFFE0),  # LDR (literal)
 )
 
@@ -58,6 +62,13 @@ site p t = record { at = p; target = t }
 """
 
 
+def words_of(listing):
+    """The words of a listing, as a list of its lines."""
+    words = [w for line in listing[1:] if line[0] != "site" for w in line]
+    assert len(words) == int(listing[0][1])
+    return words
+
+
 def cases(path):
     """Name, record, words and sites of each accepted record."""
     found = []
@@ -69,10 +80,8 @@ def cases(path):
             found[-1][2].append(line.split())
     for name, record, listing in found:
         if listing and listing[0][0] == "words":
-            words = [w for line in listing[1:] if line[0] != "site" for w in line]
             sites = sorted((int(line[1]), line[2]) for line in listing if line[0] == "site")
-            assert len(words) == int(listing[0][1])
-            yield name, record, words, sites
+            yield name, record, words_of(listing), sites
 
 
 def patches(words):
@@ -91,7 +100,7 @@ def listed(items):
     return "".join(f"{i} ∷ " for i in items) + "[]"
 
 
-def equations(n, case):
+def equations(n, case, commit):
     name, record, words, sites = case
     unfolding = "unfolding " + " ".join(UNFOLDED.values())
     block = f"(reading (hex {len(record) // 2} 0x{record}) .block)"
@@ -116,6 +125,17 @@ patches{n} = refl
 walked{n} : walkedWords {half} (blockLines {block}) ≡ {listed("0x" + w for w in walked)}
 {unfolding}
 walked{n} = refl
+""" + (committed(n, record, block, unfolding, commit) if commit else "")
+
+
+def committed(n, record, block, unfolding, commit):
+    """The equation on the commit's words."""
+    out = subprocess.run(shlex.split(commit), input=bytes.fromhex(record), stdout=subprocess.PIPE, check=True).stdout.decode()
+    words = words_of([line.split() for line in out.splitlines()])
+    return f"""
+commit{n} : commitWords {block} ≡ {listed("0x" + w for w in words)}
+{unfolding}
+commit{n} = refl
 """
 
 
@@ -124,15 +144,19 @@ def main():
     p.add_argument("records")
     p.add_argument("out")
     p.add_argument("--most", type=int, default=1 << 30)
+    p.add_argument("--commit", metavar="LISTING", help="a command that prints a record's listing without the tests of 2026-04")
     a = p.parse_args()
+    if not a.commit:
+        del UNFOLDED["lowering.specs.Commit"]
     taken = [c for c in cases(a.records) if len(c[2]) <= a.most]
     uses = "".join(f"use Rattle.{module}.{{{', '.join(names.split())}}}\n" for module, names in UNFOLDED.items())
     os.makedirs(a.out, exist_ok=True)
     with open(os.path.join(a.out, "Words.antt"), "w") as f:
-        f.write(HEAD + uses + HEX + "".join(equations(n, c) for n, c in enumerate(taken)))
+        f.write(HEAD + uses + HEX + "".join(equations(n, c, a.commit) for n, c in enumerate(taken)))
     with open(os.path.join(a.out, "Lib.antt"), "w") as f:
         f.write("pub mod Words\n")
     print(f"{len(taken)} records, {sum(len(c[2]) for c in taken)} words, {sum(len(patches(c[2])) for c in taken)} patches")
 
 
-main()
+if __name__ == "__main__":
+    main()

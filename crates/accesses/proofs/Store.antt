@@ -1,5 +1,5 @@
 -- The step store: to RAM, or by the write helper.
---     odd-passes, odd-goes        the test of an odd halfword
+--     align-passes, align-goes    the tests of an odd halfword, and of a word that is on no multiple of 4
 --     map-passes, map-goes        the test of the code map
 --     store-frag                  the store itself
 --     slow-frag                   the write helper
@@ -8,10 +8,11 @@ use mathlib.Core.Path.{_≡_, refl, sym, ap, ap₂, _∙_}
 use mathlib.Core.Bool.{Bool, true, false, cond, not, _&&_}
 use mathlib.Core.Option.{Option, none, some}
 use mathlib.Core.List.{List, [], _∷_, _++_}
+use mathlib.Core.Logic.{_≢_}
 use Prim.Native.Nat.{ℕ, _-_, _/_, _%_, _^_, _≤_, _<_}
 use native.Mathlib.Nat.{mod-eq-of-lt}
 use native.Mathlib.Omega.{arith}
-use borrow.Author.Tests.{leb-true, leb-false}
+use borrow.Author.Tests.{leb-true, leb-false, eqb-true, eqb-false, not-true, not-false}
 use lib.Dec.{leb, eqb}
 use lib.ListN.{length}
 use Rattle.arm.specs.declared.Size.the-variants.{W, X}
@@ -35,10 +36,10 @@ use Rattle.machine.proofs.Registers.{W-of-X}
 use Rattle.machine.proofs.Data.{exec-lsr-imm}
 use Rattle.card.specs.Card.{Card, setRam, asked, Outcome as CardOutcome, write as cardWrite}
 use Rattle.card.specs.Word.{plus, minus}
-use Rattle.card.specs.Memory.{readLE as cardBytes, writeLE as cardPut, inside, oddHalf, holdsCode, direct, got, ask, store as cardStore}
+use Rattle.card.specs.Memory.{readLE as cardBytes, writeLE as cardPut, inside, unaligned, holdsCode, direct, got, ask, store as cardStore}
 use Rattle.lowering.specs.declared.RegCache.{RegCache}
 use Rattle.lowering.specs.Instrs.{CTX, RAM, FLAGS, DONE, HI, mov, movX, mov32, addI, sub, cmp, lsrI, indexed}
-use Rattle.lowering.specs.Fragments.{even, oddTest, mapTest, stores, call, store, stepCode, stepCache}
+use Rattle.lowering.specs.Fragments.{even, alignTest, mapTest, stores, call, store, stepCode, stepCache}
 use Rattle.lowering.specs.Steps.{Step}
 use Rattle.relation.specs.Lines.{arm, ofEffect, bare, exec, taken}
 use Rattle.relation.specs.Abs.{Abs, go, upd, kill, known, ifGot, withTemp, withCard, mstep}
@@ -87,7 +88,8 @@ module _ {b : Block} {h : Helpers} {s0 : State} (B : Body b h s0) where
   }
 
 -- ---- a step: p the address and v the value, in w0 and w1
-module _ {b : Block} {h : Helpers} {s0 : State} (B : Body b h s0) (C : Checked b) (base : ℕ) (n : Depth) (limit : ℕ) (rc : RegCache) (a : Abs) (w : Width) (i : ℕ) where
+module _ {b : Block} {h : Helpers} {s0 : State} (B : Body b h s0) (C : Checked b) (base : ℕ) (n : Depth) (limit : ℕ) (rc : RegCache)
+    (a : Abs) (w : Width) (alone : Bool) (i : ℕ) where
   module _ (p v : ℕ) (k : a .t 0 ≡ some p) (k₁ : a .t 1 ≡ some v) where
     -- what is known at each test: w0, w1 and what a call keeps
     abbrev a₀ : Abs
@@ -115,28 +117,56 @@ module _ {b : Block} {h : Helpers} {s0 : State} (B : Body b h s0) (C : Checked b
     unfolding kill upd
     back s y = forget (a₀ .t) (below-skip (below-same (a₀ .t)) 3 (some at) refl) y
 
-    -- ---- an odd halfword
-    bit-is : {s : State} → Sim b s0 rc a₀ s → R X s 0 / 2 ^ 0 % 2 ≡ p % 2
-    unfolding kill upd cls
-    bit-is {s} y = let x : R W s 0 ≡ p = y .temps 0 p refl refl in let z : R X s 0 % 2 ^ 32 ≡ R W s 0 = W-of-X s 0 in omega arith
+    -- ---- an odd halfword, and a word that is on no multiple of 4
+    -- tests that are passed, and tests that go to the slow path
+    abbrev Passes : Code (under (under n)) → Type 0
+    Passes f = Frag (arm h base) f (Sim b s0 rc a₀) (Sim b s0 rc a₀)
 
-    odd-passes : oddHalf w p ≡ false → Frag (arm h base) {n = under (under n)} (oddTest w) (Sim b s0 rc a₀) (Sim b s0 rc a₀)
-    unfolding oddTest taken
-    odd-passes = by w
-      where
-        by : (w : Width) → oddHalf w p ≡ false → Frag (arm h base) {n = under (under n)} (oddTest w) (Sim b s0 rc a₀) (Sim b s0 rc a₀)
-        by B8 e = frag-nil
-        by B16 e = frag-unless (tb nonzero 0 0) inner (λ s y. ap (λ u. not (not (eqb u 1))) (bit-is y) ∙ ap (λ u. not (not u)) e)
-        by B32 e = frag-nil
+    abbrev Misses : Code (under (under n)) → Type 0
+    Misses f = Goes (arm h base) f inner (Sim b s0 rc a₀) (Sim b s0 rc a₀)
 
-    odd-goes : oddHalf w p ≡ true → Goes (arm h base) {n = under (under n)} (oddTest w) inner (Sim b s0 rc a₀) (Sim b s0 rc a₀)
-    unfolding oddTest taken
-    odd-goes = by w
+    -- bit k of the address is x, in any register whose low half is p
+    abbrev Bit : (k x : ℕ) → Type 0
+    Bit k x = (r : ℕ) → r % 2 ^ 32 ≡ p → r / 2 ^ k % 2 ≡ x
+
+    bit-is : (k x : ℕ) → Bit k x → {s : State} → Sim b s0 rc a₀ s → taken (tb nonzero k 0) s ≡ not (not (eqb x 1))
+    unfolding kill upd cls taken
+    bit-is k x f {s} y = ap (λ u. not (not (eqb u 1))) (f (R X s 0) (W-of-X s 0 ∙ y .temps 0 p refl refl))
+
+    clear : (k : ℕ) → Bit k 0 → Passes (to (tb nonzero k 0) inner)
+    clear k f = frag-unless (tb nonzero k 0) inner (λ s y. bit-is k 0 f y)
+
+    set : (k : ℕ) → Bit k 1 → Misses (to (tb nonzero k 0) inner)
+    set k f = goes-if (tb nonzero k 0) inner (λ s y. bit-is k 1 f y)
+
+    even-passes : eqb (p % 2) 1 ≡ false → Passes (to (tb nonzero 0 0) inner)
+    even-passes e = let m : p % 2 ≢ 1 = eqb-false (p % 2) 1 e in clear 0 (λ r q. omega arith)
+
+    odd-goes : eqb (p % 2) 1 ≡ true → Misses (to (tb nonzero 0 0) inner)
+    odd-goes e = let m : p % 2 ≡ 1 = eqb-true (p % 2) 1 e in set 0 (λ r q. omega arith)
+
+    align-passes : (words : Bool) (w : Width) → unaligned words w p ≡ false → Passes (alignTest words w)
+    unfolding alignTest
+    align-passes u B8 e = frag-nil
+    align-passes u B16 e = even-passes e
+    align-passes false B32 e = frag-nil
+    align-passes true B32 e =
+        let m : p % 4 ≡ 0 = eqb-true (p % 4) 0 (not-false _ e) in
+        frag-then (clear 0 (λ r q. omega arith)) (clear 1 (λ r q. omega arith))
+
+    align-goes : (words : Bool) (w : Width) → unaligned words w p ≡ true → Misses (alignTest words w)
+    unfolding alignTest
+    align-goes u B8 e = absurd (let z : _≡_ {A = ℕ} 0 1 = cc in omega arith)
+    align-goes u B16 e = odd-goes e
+    align-goes false B32 e = absurd (let z : _≡_ {A = ℕ} 0 1 = cc in omega arith)
+    align-goes true B32 e = test (eqb (p % 2) 1) (λ f. goes-before (odd-goes f)) (λ f. goes-after (even-passes f) (second f))
       where
-        by : (w : Width) → oddHalf w p ≡ true → Goes (arm h base) {n = under (under n)} (oddTest w) inner (Sim b s0 rc a₀) (Sim b s0 rc a₀)
-        by B8 e = absurd (let z : _≡_ {A = ℕ} 0 1 = cc in omega arith)
-        by B16 e = goes-if (tb nonzero 0 0) inner (λ s y. ap (λ u. not (not (eqb u 1))) (bit-is y) ∙ ap (λ u. not (not u)) e)
-        by B32 e = absurd (let z : _≡_ {A = ℕ} 0 1 = cc in omega arith)
+        second : eqb (p % 2) 1 ≡ false → Misses (to (tb nonzero 1 0) inner)
+        second f =
+            let m : p % 4 ≢ 0 = eqb-false (p % 4) 0 (not-true _ e) in
+            let l : p % 2 ≢ 1 = eqb-false (p % 2) 1 f in
+            let j : p % 4 ≡ 2 = omega arith in
+            set 1 (λ r q. omega arith)
 
     -- ---- the range
     lim-lt : lim < 2 ^ 32
@@ -274,9 +304,13 @@ module _ {b : Block} {h : Helpers} {s0 : State} (B : Body b h s0) (C : Checked b
         a₅ = withTemp 4 (some (bytes w)) a₄
 
     -- ---- the tests together
+    -- are words tested?
+    abbrev words : Bool
+    words = alone && b .memory .map
+
     abbrev guarded : Code (under (under n))
     guarded =
-        oddTest w
+        alignTest words w
         then code (mov32 2 (b .memory .«ram_base») ++ (sub 3 0 2 ∷ (mov32 2 lim ++ (cmp 3 2 ∷ []))))
         then to (bCond HI) inner
         then mapTest (b .memory .map)
@@ -286,46 +320,59 @@ module _ {b : Block} {h : Helpers} {s0 : State} (B : Body b h s0) (C : Checked b
     at-lt : at < 2 ^ 32
     at-lt = omega arith
 
-    hit : oddHalf w p ≡ false → at ≤ lim → holdsCode (b .memory) at (a .c) ≡ false → Goes (arm h base) guarded (outer inner) (Sim b s0 rc a₀) (Sim b s0 rc (stored (setRam put (a .c))))
+    hit : unaligned words w p ≡ false → at ≤ lim → holdsCode (b .memory) at (a .c) ≡ false
+        → Goes (arm h base) guarded (outer inner) (Sim b s0 rc a₀) (Sim b s0 rc (stored (setRam put (a .c))))
     unfolding taken
     hit e le f =
-        goes-after (odd-passes e) (goes-after ahead (goes-after (frag-map (range-in h base a₀ inner at lim at-lt lim-lt le) hold)
+        goes-after (align-passes words w e) (goes-after ahead (goes-after (frag-map (range-in h base a₀ inner at lim at-lt lim-lt le) hold)
         (goes-after (map-passes le f) (goes-after (store-frag le) (goes-if always (outer inner) (λ s y. refl))))))
 
-    miss-odd : oddHalf w p ≡ true → Goes (arm h base) guarded inner (Sim b s0 rc a₀) (Sim b s0 rc a₀)
-    miss-odd e = goes-before (odd-goes e)
+    miss-align : unaligned words w p ≡ true → Misses guarded
+    miss-align e = goes-before (align-goes words w e)
 
-    miss-range : oddHalf w p ≡ false → lim < at → Goes (arm h base) guarded inner (Sim b s0 rc a₀) (Sim b s0 rc a₀)
-    miss-range e lt = goes-after (odd-passes e) (goes-after ahead (goes-before (goes-map (range-out h base a₀ inner at lim at-lt lim-lt lt) (λ s y. back s (hold s y)))))
+    miss-range : unaligned words w p ≡ false → lim < at → Misses guarded
+    miss-range e lt =
+        goes-after (align-passes words w e)
+        (goes-after ahead (goes-before (goes-map (range-out h base a₀ inner at lim at-lt lim-lt lt) (λ s y. back s (hold s y)))))
 
-    miss-map : oddHalf w p ≡ false → at ≤ lim → holdsCode (b .memory) at (a .c) ≡ true → Goes (arm h base) guarded inner (Sim b s0 rc a₀) (Sim b s0 rc a₀)
-    miss-map e le f = goes-after (odd-passes e) (goes-after ahead (goes-after (frag-map (range-in h base a₀ inner at lim at-lt lim-lt le) hold) (goes-before (map-goes le f))))
+    miss-map : unaligned words w p ≡ false → at ≤ lim → holdsCode (b .memory) at (a .c) ≡ true → Misses guarded
+    miss-map e le f =
+        goes-after (align-passes words w e)
+        (goes-after ahead (goes-after (frag-map (range-in h base a₀ inner at lim at-lt lim-lt le) hold) (goes-before (map-goes le f))))
 
     -- ---- what each makes of the step
-    direct-frag : Goes (arm h base) guarded (outer inner) (Sim b s0 rc a₀) (Sim b s0 rc (stored (setRam put (a .c)))) → Frag (arm h base) {n = n} (store b rc w i) (Sim b s0 rc a) (Sim b s0 rc (stored (setRam put (a .c))))
+    direct-frag : Goes (arm h base) guarded (outer inner) (Sim b s0 rc a₀) (Sim b s0 rc (stored (setRam put (a .c))))
+        → Frag (arm h base) {n = n} (store b rc w alone i) (Sim b s0 rc a) (Sim b s0 rc (stored (setRam put (a .c))))
     unfolding store
     direct-frag g = frag-pre start (block-here (goes-before (block-on g)))
 
-    asked-meets : Goes (arm h base) guarded inner (Sim b s0 rc a₀) (Sim b s0 rc a₀) → (os : List CardOutcome) → a .c .outcomes ≡ os
-        → Meets h base b s0 rc a {n = n} (store b rc w i) rc (ifGot (ask (cardWrite p (bytes w) (plus (a .c .done) i) v) os (a .c)) (λ u c. go (stored c)))
+    asked-meets : Misses guarded → (os : List CardOutcome) → a .c .outcomes ≡ os
+        → Meets h base b s0 rc a {n = n} (store b rc w alone i) rc
+        (ifGot (ask (cardWrite p (bytes w) (plus (a .c .done) i) v) os (a .c)) (λ u c. go (stored c)))
     unfolding store
     asked-meets g [] e = tt
     asked-meets g (o ∷ os) e = frag-pre start (frag-block (frag-then (block-here g) (slow-frag o os e)))
 
-    cases : (u : Bool) → oddHalf w p ≡ u → (x : Bool) → leb at lim ≡ x → (y : Bool) → holdsCode (b .memory) at (a .c) ≡ y
-        → Meets h base b s0 rc a {n = n} (store b rc w i) rc
-        (ifGot (cond (not u && x && not y) (got 0 (setRam put (a .c))) (ask (cardWrite p (bytes w) (plus (a .c .done) i) v) (a .c .outcomes) (a .c))) (λ u c. go (stored c)))
-    cases true q x r y z = asked-meets (miss-odd q) (a .c .outcomes) refl
+    cases : (u : Bool) → unaligned words w p ≡ u → (x : Bool) → leb at lim ≡ x → (y : Bool) → holdsCode (b .memory) at (a .c) ≡ y
+        → Meets h base b s0 rc a {n = n} (store b rc w alone i) rc
+        (ifGot (cond (not u && x && not y) (got 0 (setRam put (a .c)))
+        (ask (cardWrite p (bytes w) (plus (a .c .done) i) v) (a .c .outcomes) (a .c))) (λ u c. go (stored c)))
+    cases true q x r y z = asked-meets (miss-align q) (a .c .outcomes) refl
     cases false q false r y z = asked-meets (miss-range q (leb-false at lim r)) (a .c .outcomes) refl
     cases false q true r true z = asked-meets (miss-map q (leb-true at lim r) z) (a .c .outcomes) refl
     cases false q true r false z = direct-frag (hit q (leb-true at lim r) z)
 
-  pub store-ok : Meets h base b s0 rc a {n = n} (stepCode b rc (Step.store w i)) (stepCache rc (Step.store w i)) (mstep b (bytesOf (s0 .mem) xip) limit (Step.store w i) a)
+  pub store-ok : Meets h base b s0 rc a {n = n} (stepCode b rc (Step.store w alone i)) (stepCache rc (Step.store w alone i))
+      (mstep b (bytesOf (s0 .mem) xip) limit (Step.store w alone i) a)
   unfolding stepCode stepCache mstep cardStore direct
   store-ok = by (a .t 0) refl (a .t 1) refl
     where
       by : (o : Option ℕ) → a .t 0 ≡ o → (o′ : Option ℕ) → a .t 1 ≡ o′
-          → Meets h base b s0 rc a {n = n} (store b rc w i) rc (known o (λ p. known o′ (λ v. ifGot (cardStore (b .memory) i w p v (a .c)) (λ u c. go (record { c = c; t = kill (a .t); f = none })))))
+          → Meets h base b s0 rc a {n = n} (store b rc w alone i) rc
+          (known o (λ p. known o′ (λ v. ifGot (cardStore (b .memory) i w alone p v (a .c))
+          (λ u c. go (record { c = c; t = kill (a .t); f = none })))))
       by none e o′ e′ = tt
       by (some p) e none e′ = tt
-      by (some p) e (some v) e′ = cases p v e e′ (oddHalf w p) refl (leb (at p v e e′) (lim p v e e′)) refl (holdsCode (b .memory) (at p v e e′) (a .c)) refl
+      by (some p) e (some v) e′ =
+          cases p v e e′ (unaligned (words p v e e′) w p) refl (leb (at p v e e′) (lim p v e e′)) refl
+          (holdsCode (b .memory) (at p v e e′) (a .c)) refl

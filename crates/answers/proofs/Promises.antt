@@ -19,6 +19,7 @@ use Rattle.code.proofs.Tree.{whole-size, whole-length}
 use Rattle.lowering.specs.Fragments.{closing}
 use Rattle.lowering.specs.Steps.{blockSteps}
 use Rattle.lowering.specs.declared.Site.{Site}
+use Rattle.lowering.proofs.Commit.{departs}
 use Rattle.lowering.specs.Compile.{blockCode, blockLines, blockWords, bodyOffset, starts, targets, zipSites, sites}
 use Rattle.bounds.specs.Whole.{Emitted}
 use Rattle.bounds.proofs.Whole.{emitted}
@@ -125,6 +126,7 @@ module _ (bytes lent : List ℕ) where
         refused-known = refused-listed;
         refused-words = refused-zeros;
         accepted-words = first-words;
+        flag-0-words = λ n body ss e off. first-words n body ss e ∙ departs (reading bytes .block) .flag-0 off .words-same;
         accepted-beyond = words-beyond;
       }
 

@@ -1,7 +1,7 @@
 -- WHAT A READER ASKS OF THE ANSWER AND OF THE LENT WORDS: when a record is accepted, when the answer is 10, and which words stand where.
 -- Proved for every list of bytes and every lent slice (proofs/Promises.antt `translations`).
 use mathlib.Core.Path.{_≡_}
-use mathlib.Core.Bool.{true}
+use mathlib.Core.Bool.{true, false}
 use mathlib.Core.List.{List, _∷_}
 use Prim.Native.Nat.{ℕ, _<_, _≤_}
 use lib.ListN.{length, take, drop}
@@ -9,6 +9,7 @@ use Rattle.record.specs.declared.Answer.the-variants.{Accepted as NoFault, Refu
 use Rattle.record.specs.Record.{reading, readingFaults, among}
 use Rattle.lowering.specs.declared.Site.{Site}
 use Rattle.lowering.specs.Compile.{blockWords, bodyOffset, sites}
+use Rattle.lowering.specs.Commit.{commitWords}
 use Rattle.finish.specs.Finish.{zeros}
 use Rattle.answers.specs.Translation.{accepted, refused, translation, lentAfter}
 
@@ -36,6 +37,9 @@ pub record Translations (bytes lent : List ℕ) : Type 0 where
   -- the first are the block's, as many as the answer says
   pub accepted-words : (n body : ℕ) (ss : List Site) → translation bytes lent ≡ accepted n body ss
       → take n (lentAfter bytes lent) ≡ wordsOf bytes
+  -- 2026-04, "With flag 0 the words are unchanged": the commit's
+  pub flag-0-words : (n body : ℕ) (ss : List Site) → translation bytes lent ≡ accepted n body ss → reading bytes .block .memory .map ≡ false
+      → take n (lentAfter bytes lent) ≡ commitWords (reading bytes .block)
   -- "An accepted block leaves the words beyond it untouched"
   pub accepted-beyond : (n body : ℕ) (ss : List Site) → translation bytes lent ≡ accepted n body ss
       → drop n (lentAfter bytes lent) ≡ drop n lent

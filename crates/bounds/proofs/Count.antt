@@ -51,7 +51,7 @@ base-few true false n r = sure tt
 pushes-few : (i : ℕ) (rs : List ℕ) → Within (times (length rs) (cost 43 2 5 0)) (pushAll i rs)
 unfolding pushAll
 pushes-few i [] = sure tt
-pushes-few i (r ∷ rs) = joined {xs = push i (Step.ldReg 1 r)} (sure tt) (pushes-few i rs)
+pushes-few i (r ∷ rs) = joined {xs = push false i (Step.ldReg 1 r)} (sure tt) (pushes-few i rs)
 
 pops-few : (i : ℕ) (rs : List ℕ) → Within (times (length rs) (cost 54 3 5 0)) (popAll i rs)
 unfolding popAll
@@ -154,7 +154,7 @@ few (PushRets n) i next =
     let all = pushes-few i (reverse (saved n)) in
     let twelve : FastFits (PushRets n) → length (reverse (saved n)) ≤ 12 = λ h. omega (arith, reverse-count (saved n), saved-few n h) in
     record {
-      most = λ h. wider tt (joined {xs = push i (Step.ldField Field.rets 1)} own (up-to _ _ 12 (twelve h) all));
+      most = λ h. wider tt (joined {xs = push false i (Step.ldField Field.rets 1)} own (up-to _ _ 12 (twelve h) all));
       sites = omega (arith, all .le Measure.sites, no-sites 43 2 5 (length (reverse (saved n))));
     }
 few (PopPc n) i next =

@@ -1,8 +1,7 @@
 -- Every instruction of a fragment fits its word, in a checked block.
-use mathlib.Core.Path.{_≡_, refl}
-use mathlib.Core.Bool.{Bool, true, false}
+use mathlib.Core.Bool.{Bool, true, false, _&&_}
 use mathlib.Core.List.{List, [], _∷_, _++_}
-use Prim.Native.Nat.{ℕ, zero, suc, _+_, _-_, _<_, _≤_}
+use Prim.Native.Nat.{ℕ, _+_, _-_, _<_, _≤_}
 use native.Mathlib.Omega.{arith}
 use lib.Dec.{T}
 use Rattle.arm.specs.declared.Access.the-variants.{Ldrb}
@@ -16,13 +15,15 @@ use Rattle.block.specs.declared.Width.the-variants.{Byte as B8, Half as B16, Wo
 use Rattle.block.specs.declared.Block.{Block}
 use Rattle.block.specs.Block.{bytes}
 use Rattle.block.specs.Checked.{Checked}
-use Rattle.code.specs.Items.{Sound, b, bCond}
-use Rattle.code.specs.Tree.{Depth, top, under, Var, inner, outer, Code, code, lit, to, exit, block, start, _then_, Fine}
+use Rattle.code.specs.Items.{Sound}
+use Rattle.code.specs.Tree.{Depth, top, under, Var, inner, outer, Fine}
 use Rattle.lowering.specs.declared.RegCache.{RegCache}
-use Rattle.lowering.specs.Instrs.{CPU, CTX, RAM, XIP, DONE, LIMIT, FLAGS, mov, movX, mov32, addI, sub, cmp, and, ldr, str, strX, ldrX, ubfx, addXLsl, br, blr, indexed, lsrI}
-use Rattle.lowering.specs.Cache.{flush, reload}
+use Rattle.lowering.specs.Instrs.{CPU, CTX, RAM, XIP, DONE, LIMIT, FLAGS, mov, movX, mov32, sub, cmp, and, ldr, str, strX, ldrX, ubfx, addXLsl, br, blr, indexed, lsrI}
+use Rattle.lowering.specs.Cache.{flush}
 use Rattle.lowering.specs.Steps.{Field, sp, rets, Step}
-use Rattle.lowering.specs.Fragments.{fieldAt, addImm, brkFirst, even, loads, tryRegion, extended, oddTest, mapTest, stores, call, exitImm, chain, ind, hold, checkBrk, fork, limit, load, store, stepCode, stepCache, stepsCode, opening, closing}
+use Rattle.lowering.specs.Fragments.{fieldAt, addImm, brkFirst, even, loads, tryRegion, extended, alignTest, mapTest, stores, call, exitImm}
+use Rattle.lowering.specs.Fragments.{chain, ind, hold, checkBrk, fork, limit, load, store, stepCode, stepCache, stepsCode, opening}
+use Rattle.lowering.specs.Fragments.{closing}
 use Rattle.bounds.specs.Sound.{Number, Count, StepFits, AllFit}
 use Rattle.bounds.proofs.Fine.{CacheFits, sound-append, is-host, ldr-fits, str-fits, addI-fits, mov-fits, mov32-fits, addImm-fits, ldReg-fits, stReg-fits, flush-fits, reload-fits, seated-fits, stored-fits}
 
@@ -71,11 +72,12 @@ extended-fits B8 true = sound-by (extended B8 true) tt
 extended-fits B16 true = sound-by (extended B16 true) tt
 extended-fits B32 true = tt
 
-odd-fine : (n : Depth) (w : Width) → Fine (oddTest {n = n} w)
-unfolding Fine oddTest Sound
-odd-fine n B8 = tt
-odd-fine n B16 = (omega arith, omega arith)
-odd-fine n B32 = tt
+align-fine : (n : Depth) (u : Bool) (w : Width) → Fine (alignTest {n = n} u w)
+unfolding Fine alignTest Sound
+align-fine n u B8 = tt
+align-fine n u B16 = (omega arith, omega arith)
+align-fine n false B32 = tt
+align-fine n true B32 = ((omega arith, omega arith), (omega arith, omega arith))
 
 map-fine : (n : Depth) (u : Bool) → Fine (mapTest {n = n} u)
 unfolding Fine mapTest Sound
@@ -183,11 +185,11 @@ module _ (blk : Block) (ck : Checked blk) (rc : RegCache) (cf : CacheFits rc) wh
     ),
   )
 
-  store-fine : (n : Depth) (w : Width) (i : ℕ) → Count i → Fine (store blk rc {n = n} w i)
+  store-fine : (n : Depth) (w : Width) (alone : Bool) (i : ℕ) → Count i → Fine (store blk rc {n = n} w alone i)
   unfolding Fine store Sound
-  store-fine n w i k = (
+  store-fine n w alone i k = (
     (
-      odd-fine (under n) w,
+      align-fine (under n) (alone && blk .memory .map) w,
       (
         sound-append (mov32 2 (blk .memory .«ram_base»)) _ (mov32-fits 2 _ (omega arith) (omega (arith, ck .memory .ram .inside, ck .memory .ram .long)))
             (true-carried (sub 3 0 2) tt, sound-append (mov32 2 (blk .memory .«ram_len» - bytes w)) _ (mov32-fits 2 _ (omega arith) (omega (arith, ck .memory .ram .inside, bytes-fits w))) (true-carried (cmp 3 2) tt, tt)),
@@ -214,7 +216,7 @@ module _ (blk : Block) (ck : Checked blk) (rc : RegCache) (cf : CacheFits rc) wh
   step-fine n (Step.addImm d s v) h = addImm-fits d s v (is-host d (h .0)) (is-host s (h .1)) (h .2)
   step-fine n (Step.ins i) h = (true-carried i h, tt)
   step-fine n (Step.load w signed i) h = load-fine n w signed i h
-  step-fine n (Step.store w i) h = store-fine n w i h
+  step-fine n (Step.store w alone i) h = store-fine n w alone i h
   step-fine n (Step.checkBrk glue pc count) h = check-fine n glue pc count (h .0) (h .1)
   step-fine n (Step.chain pc count) h = chain-fine n pc count (h .0) (h .1)
   step-fine n (Step.fork cond pc target count) h = fork-fine n cond pc target count (h .0) (h .1) (h .2) (h .3)
@@ -231,7 +233,7 @@ cache-fits rc (Step.mov32 t v) c h = c
 cache-fits rc (Step.addImm d s v) c h = c
 cache-fits rc (Step.ins i) c h = c
 cache-fits rc (Step.load w signed i) c h = c
-cache-fits rc (Step.store w i) c h = c
+cache-fits rc (Step.store w alone i) c h = c
 cache-fits rc (Step.checkBrk glue pc count) c h = c
 cache-fits rc (Step.chain pc count) c h = c
 cache-fits rc (Step.fork cond pc target count) c h = c

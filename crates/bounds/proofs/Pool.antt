@@ -1,22 +1,23 @@
 -- A block has at most three literals: the two helpers' addresses and the table's. A pool of distinct numbers among three has at most
 -- three; the invariant: its length is at most the number of the three that stand in it.
-use mathlib.Core.Path.{_≡_, refl, sym, ap, subst, _∙_}
-use mathlib.Core.Bool.{Bool, true, false}
+use mathlib.Core.Path.{_≡_, refl, sym, subst, _∙_}
+use mathlib.Core.Bool.{Bool, true, false, _&&_}
 use mathlib.Core.List.{List, [], _∷_, _++_, map}
 use Prim.Native.Nat.{ℕ, suc, _+_, _≤_}
 use native.Mathlib.Omega.{arith}
 use lib.Dec.{eqb}
 use lib.ListN.{length}
-use borrow.Author.Tests.{eq-eqb, eqb-true}
+use borrow.Author.Tests.{eq-eqb}
 use Rattle.arm.specs.declared.Instr.{Instr}
 use Rattle.block.specs.declared.Width.{Width}
 use Rattle.block.specs.declared.Width.the-variants.{Byte as B8, Half as B16, Word as B32}
 use Rattle.block.specs.declared.Block.{Block}
 use Rattle.code.specs.Items.{pick, add}
-use Rattle.code.specs.Tree.{Depth, top, under, Var, Code, code, lit, to, exit, block, start, _then_, words, inside, lines, nowhere, wholeLines, Line, plain, over, back, load, poolIn}
+use Rattle.code.specs.Tree.{Depth, top, Var, Code, code, lit, to, exit, block, start, _then_, words, inside, lines, nowhere, wholeLines, Line, plain, over, back, load, poolIn}
 use Rattle.lowering.specs.declared.RegCache.{RegCache}
 use Rattle.lowering.specs.Steps.{Step}
-use Rattle.lowering.specs.Fragments.{brkFirst, tryRegion, oddTest, mapTest, call, exitImm, chain, ind, checkBrk, fork, limit, load as loadCode, store, stepCode, stepCache, stepsCode}
+use Rattle.lowering.specs.Fragments.{brkFirst, tryRegion, alignTest, mapTest, call, exitImm, chain, ind, checkBrk, fork, limit}
+use Rattle.lowering.specs.Fragments.{load as loadCode, store, stepCode, stepCache, stepsCode}
 
 -- 1 if a number stands in a list
 abbrev has : ℕ → List ℕ → ℕ
@@ -123,11 +124,12 @@ unfolding brkFirst
 brk-none P n false = tt
 brk-none P n true = (tt, tt)
 
-odd-none : (P : ℕ → Type 0) (n : Depth) (w : Width) → Literals P (oddTest {n = n} w)
-unfolding oddTest
-odd-none P n B8 = tt
-odd-none P n B16 = tt
-odd-none P n B32 = tt
+align-none : (P : ℕ → Type 0) (n : Depth) (u : Bool) (w : Width) → Literals P (alignTest {n = n} u w)
+unfolding alignTest
+align-none P n u B8 = tt
+align-none P n u B16 = tt
+align-none P n false B32 = tt
+align-none P n true B32 = (tt, tt)
 
 map-none : (P : ℕ → Type 0) (n : Depth) (u : Bool) → Literals P (mapTest {n = n} u)
 unfolding mapTest
@@ -148,7 +150,9 @@ module _ (blk : Block) where
   step-literals rc (Step.addImm d s v) = tt
   step-literals rc (Step.ins i) = tt
   step-literals rc (Step.load w signed i) = (((tt, (tt, (tt, tt))), (tt, (tt, (tt, tt)))), (tt, ((tt, (keeps-a _ _ _, tt)), tt)))
-  step-literals rc (Step.store w i) = ((odd-none _ _ w, (tt, (tt, (map-none _ _ (blk .memory .map), (tt, tt))))), (tt, (tt, (keeps-b _ _ _, tt))))
+  step-literals rc (Step.store w alone i) =
+      let m = blk .memory .map in
+      ((align-none _ _ (alone && m) w, (tt, (tt, (map-none _ _ m, (tt, tt))))), (tt, (tt, (keeps-b _ _ _, tt))))
   step-literals rc (Step.checkBrk glue pc count) = (tt, (tt, (tt, (tt, tt))))
   step-literals rc (Step.chain pc count) = (tt, ((tt, tt), (tt, tt)))
   step-literals rc (Step.fork cond pc target count) = ((tt, (tt, ((tt, tt), (tt, tt)))), (tt, ((tt, tt), (tt, tt))))

@@ -2,7 +2,7 @@
 -- it goes to.
 use mathlib.Core.Bool.{Bool, true, false, not, _&&_}
 use mathlib.Core.List.{List, [], _∷_, _++_}
-use Prim.Native.Nat.{ℕ, suc, _-_, _/_, _%_, _<_, _≤_}
+use Prim.Native.Nat.{ℕ, suc, _+_, _-_, _/_, _%_, _<_, _≤_}
 use native.Mathlib.Omega.{arith}
 use lib.Dec.{eqb, ltb}
 use lib.ListN.{length, getD, length-append}
@@ -19,7 +19,7 @@ use Rattle.lowering.specs.Instrs.{CPU, RAM, XIP, mov32, ldr}
 use Rattle.lowering.specs.Cache.{POOL, host, FREE, offReg, oldest, isHeld, chosen, spill, ldReg, stReg, flushFrom, flush, reloadFrom}
 use Rattle.lowering.specs.Cache.{reload}
 use Rattle.lowering.specs.Steps.{Step}
-use Rattle.lowering.specs.Fragments.{minus, addImm, brkFirst, even, tryRegion, extended, oddTest, mapTest, call, exitImm, chain, ind}
+use Rattle.lowering.specs.Fragments.{minus, addImm, brkFirst, even, tryRegion, extended, alignTest, mapTest, call, exitImm, chain, ind}
 use Rattle.lowering.specs.Fragments.{hold, checkBrk, fork, limit, load, store, stepCode, stepCache, stepsCode}
 use Rattle.bounds.proofs.Cost.{Measure, Cost, cost, costOf, total}
 
@@ -119,18 +119,28 @@ unfolding mapTest words labels jumps Tests
 map-short n false = record { words-le = omega arith; labels-le = omega arith; jumps-le = omega arith; tests = λ d x. tt }
 map-short n true = record { words-le = omega arith; labels-le = omega arith; jumps-le = omega arith; tests = λ d x. (tt, tt) }
 
--- the one test of a bit: it goes behind the block around it
-pub record Odd (n : Depth) (w : Width) : Type 0 where
-  pub words-le : words (oddTest {n = n} w) ≤ 1
-  pub labels-le : labels (oddTest {n = n} w) ≤ 0
-  pub jumps-le : jumps (oddTest {n = n} w) ≤ 1
-  pub tests : (d : Var (under n) → ℕ) (x : ℕ) → suc (d inner) < 8192 → Tests (oddTest {n = n} w) d x
+-- the tests of a bit, k at most: each goes behind the block around it, the first of two past the second
+pub record Aligns (k : ℕ) (n : Depth) (u : Bool) (w : Width) : Type 0 where
+  pub words-le : words (alignTest {n = n} u w) ≤ k
+  pub labels-le : labels (alignTest {n = n} u w) ≤ 0
+  pub jumps-le : jumps (alignTest {n = n} u w) ≤ k
+  pub tests : (d : Var (under n) → ℕ) (x : ℕ) → 2 + d inner < 8192 → Tests (alignTest {n = n} u w) d x
 
-odd-short : (n : Depth) (w : Width) → Odd n w
-unfolding oddTest words labels jumps Tests
-odd-short n B8 = record { words-le = omega arith; labels-le = omega arith; jumps-le = omega arith; tests = λ d x h. tt }
-odd-short n B16 = record { words-le = omega arith; labels-le = omega arith; jumps-le = omega arith; tests = λ d x h. h }
-odd-short n B32 = record { words-le = omega arith; labels-le = omega arith; jumps-le = omega arith; tests = λ d x h. tt }
+-- a halfword's
+one-test : (n : Depth) (w : Width) → Aligns 1 n false w
+unfolding alignTest words labels jumps Tests
+one-test n B8 = record { words-le = omega arith; labels-le = omega arith; jumps-le = omega arith; tests = λ d x h. tt }
+one-test n B16 = record { words-le = omega arith; labels-le = omega arith; jumps-le = omega arith; tests = λ d x h. omega arith }
+one-test n B32 = record { words-le = omega arith; labels-le = omega arith; jumps-le = omega arith; tests = λ d x h. tt }
+
+-- where words are tested, a word's
+two-tests : (n : Depth) (u : Bool) (w : Width) → Aligns 2 n u w
+unfolding alignTest words labels jumps Tests
+two-tests n u B8 = record { words-le = omega arith; labels-le = omega arith; jumps-le = omega arith; tests = λ d x h. tt }
+two-tests n u B16 = record { words-le = omega arith; labels-le = omega arith; jumps-le = omega arith; tests = λ d x h. omega arith }
+two-tests n false B32 = record { words-le = omega arith; labels-le = omega arith; jumps-le = omega arith; tests = λ d x h. tt }
+two-tests n true B32 =
+    record { words-le = omega arith; labels-le = omega arith; jumps-le = omega arith; tests = λ d x h. (omega arith, omega arith) }
 
 region-short : (n : Depth) (reg gbase len : ℕ) (w : Width) (signed : Bool) (miss done : Var n)
     → Short 12 0 2 (tryRegion reg gbase len w signed miss done)
@@ -242,26 +252,30 @@ module _ (blk : Block) (rc : RegCache) (n : Depth) where
         tests = λ d x. ((p .tests _ _, q .tests _ _), (tt, (r .tests _ _, tt)));
       }
 
-  store-short : (w : Width) (i : ℕ) → CostsAtMost (costOf (Step.store w i)) (store blk rc {n = n} w i)
+  tested-short : (k : ℕ) {a j : ℕ} (w : Width) (alone : Bool) (i : ℕ) → 36 + k ≤ a → 4 + k ≤ j
+      → Aligns k (under n) (alone && blk .memory .map) w → Short a 2 j (store blk rc {n = n} w alone i)
   unfolding store words labels jumps Tests
-  store-short w i =
-      let o = odd-short (under n) w in
+  tested-short k w alone i ha hj t =
       let m = map-short (under n) (blk .memory .map) in
       let r = call-short blk rc (under n) (blk .addresses .«h_write») in
       let start = mov32-short 2 (blk .memory .«ram_base») in
       let last = mov32-short 2 (blk .memory .«ram_len» - bytes w) in
       record {
-        words-le = simp length-append (omega (arith, o .words-le, m .words-le, r .words-le, start, last, mov32-short 4 (bytes w)));
-        labels-le = omega (arith, o .labels-le, m .labels-le, r .labels-le);
-        jumps-le = omega (arith, o .jumps-le, m .jumps-le, r .jumps-le);
+        words-le = simp length-append (omega (arith, t .words-le, m .words-le, r .words-le, start, last, mov32-short 4 (bytes w)));
+        labels-le = omega (arith, t .labels-le, m .labels-le, r .labels-le);
+        jumps-le = omega (arith, t .jumps-le, m .jumps-le, r .jumps-le);
         tests = λ d x. (
           (
-            o .tests _ _ (simp length-append (omega (arith, m .words-le, start, last))),
+            t .tests _ _ (simp length-append (omega (arith, m .words-le, start, last))),
             (tt, (tt, (m .tests _ _, (tt, tt)))),
           ),
           (tt, r .tests _ _),
         );
       }
+
+  store-short : (w : Width) (alone : Bool) (i : ℕ) → CostsAtMost (costOf (Step.store w alone i)) (store blk rc {n = n} w alone i)
+  store-short w true i = tested-short 2 w true i (omega arith) (omega arith) (two-tests (under n) (blk .memory .map) w)
+  store-short w false i = tested-short 1 w false i (omega arith) (omega arith) (one-test (under n) w)
 
   plain-short : (w : ℕ) (is : List Instr) → length is ≤ w → CostsAtMost (cost w 0 0 0) {n = n} (Code.code is)
   unfolding words labels jumps Tests
@@ -277,7 +291,7 @@ module _ (blk : Block) (rc : RegCache) (n : Depth) where
   step-short (Step.addImm d s v) = plain-short _ _ (addImm-short d s v)
   step-short (Step.ins i) = plain-short _ _ (omega arith)
   step-short (Step.load w signed i) = load-short w signed i
-  step-short (Step.store w i) = store-short w i
+  step-short (Step.store w alone i) = store-short w alone i
   step-short (Step.checkBrk glue pc count) = check-short glue pc count
   step-short (Step.chain pc count) = chain-short blk rc n pc count
   step-short (Step.fork cond pc target count) = fork-short cond pc target count

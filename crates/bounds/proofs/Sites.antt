@@ -1,6 +1,6 @@
 -- The chain sites: positions that rise, one target each, two at most.
 use mathlib.Core.Path.{_≡_, refl, sym, ap, ap₂, subst, _∙_}
-use mathlib.Core.Bool.{Bool, true, false}
+use mathlib.Core.Bool.{Bool, true, false, _&&_}
 use mathlib.Core.List.{List, [], _∷_, _++_}
 use Prim.Native.Nat.{ℕ, suc, _+_, _≤_}
 use native.Mathlib.Omega.{arith}
@@ -16,7 +16,7 @@ use Rattle.code.proofs.Order.{rise-append}
 use Rattle.lowering.specs.declared.RegCache.{RegCache}
 use Rattle.lowering.specs.Cache.{emptyCache}
 use Rattle.lowering.specs.Steps.{Step, behind, opSteps, opsSteps, blockSteps}
-use Rattle.lowering.specs.Fragments.{brkFirst, tryRegion, oddTest, mapTest, call, exitImm, chain, ind, checkBrk, fork, limit, load, store}
+use Rattle.lowering.specs.Fragments.{brkFirst, tryRegion, alignTest, mapTest, call, exitImm, chain, ind, checkBrk, fork, limit, load, store}
 use Rattle.lowering.specs.Fragments.{stepCode, stepCache, stepsCode, opening}
 use Rattle.lowering.specs.Compile.{blockCode, starts, targets}
 use Rattle.lowering.proofs.Targets.{targets-append}
@@ -73,11 +73,12 @@ unfolding brkFirst
 flat-brk n false = tt
 flat-brk n true = (tt, tt)
 
-flat-odd : (n : Depth) (w : Width) → None (oddTest {n = n} w)
-unfolding oddTest
-flat-odd n B8 = tt
-flat-odd n B16 = tt
-flat-odd n B32 = tt
+flat-align : (n : Depth) (u : Bool) (w : Width) → None (alignTest {n = n} u w)
+unfolding alignTest
+flat-align n u B8 = tt
+flat-align n u B16 = tt
+flat-align n false B32 = tt
+flat-align n true B32 = (tt, tt)
 
 flat-map : (n : Depth) (u : Bool) → None (mapTest {n = n} u)
 unfolding mapTest
@@ -103,6 +104,10 @@ none-here : (s : Step) {n : Depth} (c : Code n) → length (targets (s ∷ [])) 
     → Sites s c
 none-here s c e z h = record { flat = none-flat c h; many = λ p. ap length (none-starts c p h) ∙ sym z; aims = e ∙ sym z }
 
+store-none : (w : Width) (alone : Bool) (i : ℕ) → costOf (Step.store w alone i) Measure.sites ≡ 0
+store-none w true i = refl
+store-none w false i = refl
+
 module _ (blk : Block) (rc : RegCache) where
   step-sites : (s : Step) → Sites s (stepCode blk rc {n = top} s)
   unfolding stepCode call exitImm chain ind checkBrk fork limit load store tryRegion starts
@@ -114,8 +119,10 @@ module _ (blk : Block) (rc : RegCache) where
   step-sites (Step.addImm d s v) = none-here _ _ refl refl tt
   step-sites (Step.ins i) = none-here _ _ refl refl tt
   step-sites (Step.load w signed i) = none-here _ _ refl refl (((tt, (tt, (tt, tt))), (tt, (tt, (tt, tt)))), (tt, ((tt, (tt, tt)), tt)))
-  step-sites (Step.store w i) =
-      none-here _ _ refl refl ((flat-odd _ w, (tt, (tt, (flat-map _ (blk .memory .map), (tt, tt))))), (tt, (tt, (tt, tt))))
+  step-sites (Step.store w alone i) =
+      let m = blk .memory .map in
+      none-here _ _ refl (store-none w alone i)
+      ((flat-align _ (alone && m) w, (tt, (tt, (flat-map _ m, (tt, tt))))), (tt, (tt, (tt, tt))))
   step-sites (Step.checkBrk glue pc count) = none-here _ _ refl refl (tt, (tt, (tt, (tt, tt))))
   step-sites (Step.chain pc count) = record { flat = (tt, ((tt, tt), (tt, tt))); many = λ p. refl; aims = refl }
   step-sites (Step.fork cond pc target count) =

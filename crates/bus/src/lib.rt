@@ -1,7 +1,7 @@
 // Operations that use the bus (kinds 21 to 29), each as the steps of the definition's line for it; i is the operation's position.
 ghost use Prim.Native.Nat.{ℕ};
 ghost use Rattle.lowering.specs.Given.{given};
-ghost use Rattle.lowering.specs.Steps.{lowered, changed as changedBy, rmwValue};
+ghost use Rattle.lowering.specs.Steps.{Step as Meant, lowered, changed as changedBy, rmwValue, push, rets};
 ghost use Rattle.choices.specs.Meaning.{instrOf};
 ghost use Rattle.lower.specs.Lowers.{Lowers};
 use block::Addresses;
@@ -104,7 +104,7 @@ pub fn st(
     let q = lower::ld_base(out, tab, q, lay, b);
     let q = lower::add_imm(out, tab, q, 0, 0, off);
     let q = lower::ld_reg(out, tab, q, lay, 1, s);
-    lower::store(out, tab, q, lay, mem, addr, w, i)
+    lower::store(out, tab, q, lay, mem, addr, w, true, i)
 }
 
 // d = what is at b + x shifted
@@ -153,7 +153,7 @@ pub fn st_idx(
     let q = lower::ld_reg(out, tab, q, lay, 1, x);
     let q = lower::add_lsl(out, tab, q, sh);
     let q = lower::ld_reg(out, tab, q, lay, 1, s);
-    lower::store(out, tab, q, lay, mem, addr, w, i)
+    lower::store(out, tab, q, lay, mem, addr, w, true, i)
 }
 
 // d = what is at b, then b = b + inc
@@ -199,7 +199,7 @@ pub fn st_post(
 {
     let q = lower::ld_reg(out, tab, q, lay, 0, b);
     let q = lower::ld_reg(out, tab, q, lay, 1, s);
-    let q = lower::store(out, tab, q, lay, mem, addr, w, i);
+    let q = lower::store(out, tab, q, lay, mem, addr, w, true, i);
     let q = lower::ld_reg(out, tab, q, lay, 0, b);
     let q = lower::add_imm(out, tab, q, 0, 0, inc);
     lower::st_reg(out, tab, q, lay, 0, b)
@@ -226,7 +226,27 @@ pub fn rmw(
     let q = lower::add_imm(out, tab, q, KEEP, 0, off);
     let q = rmw_value(out, tab, q, lay, mem, addr, op, w, v, i);
     let q = lower::named(out, tab, q, Fixed::Mov0Keep);
-    lower::store(out, tab, q, lay, mem, addr, w, i)
+    lower::store(out, tab, q, lay, mem, addr, w, true, i)
+}
+
+// rets to the stack, alone or as a word of a group
+pub fn rets_to_stack(
+    out: &mut [u32],
+    tab: &mut [u64; 6152],
+    q: Lowered,
+    lay: Layout,
+    mem: Memory,
+    addr: Addresses,
+    alone: bool,
+    i: u32,
+) -> Lowered
+    ensures { λ r. ⌜ (Lowers (given lay mem addr) (push alone i (Meant.ldField rets 1)) (now (out .entry)) (now (tab .entry)) q (now (out .exit)) (now (tab .exit)) r) ⌝ }
+{
+    let q = lower::ld_field(out, tab, q, lay.sp, 0);
+    let q = lower::named(out, tab, q, Fixed::SubI004);
+    let q = lower::st_field(out, tab, q, lay.sp, 0);
+    let q = lower::ld_field(out, tab, q, lay.rets, 1);
+    lower::store(out, tab, q, lay, mem, addr, Width::Word, alone, i)
 }
 
 // rets to the stack
@@ -241,11 +261,7 @@ pub fn push_ret(
 ) -> Lowered
     ensures { λ r. ⌜ ((next : ℕ) → Lowers (given lay mem addr) (lowered (Fast.PushRet) i next) (now (out .entry)) (now (tab .entry)) q (now (out .exit)) (now (tab .exit)) r) ⌝ }
 {
-    let q = lower::ld_field(out, tab, q, lay.sp, 0);
-    let q = lower::named(out, tab, q, Fixed::SubI004);
-    let q = lower::st_field(out, tab, q, lay.sp, 0);
-    let q = lower::ld_field(out, tab, q, lay.rets, 1);
-    lower::store(out, tab, q, lay, mem, addr, Width::Word, i)
+    rets_to_stack(out, tab, q, lay, mem, addr, true, i)
 }
 
 // rets from the stack

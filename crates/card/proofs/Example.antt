@@ -1,12 +1,12 @@
--- The starred lines hold, and blocks computed: a load at RAM's last offset, then a load from outside whose outcome sets the break word; and
--- one group each.
-use mathlib.Core.Bool.{true, false}
+-- The starred lines hold, and blocks computed: a load at RAM's last offset, then a load from outside whose outcome sets the break word; one
+-- group each; and an unaligned word stored.
+use mathlib.Core.Bool.{Bool, true, false}
 use mathlib.Core.List.{List, [], _∷_}
 use mathlib.Core.Path.{_≡_, refl}
 use Prim.Native.Nat.{ℕ}
 use lib.ListN.{length}
 use Rattle.block.specs.Block.{places, upFrom}
-use Rattle.card.specs.Kinds.{Fast, Ld, LdPost, BlockMove, PushRets, PopPc, LdPair, StPair, BOp, Reg, Sp, B8, B32, Memory, Block}
+use Rattle.card.specs.Kinds.{Fast, Ld, St, LdPost, BlockMove, PushRets, PopPc, LdPair, StPair, BOp, Reg, Sp, B8, B32, Block}
 use Rattle.card.specs.Word.{signedOf, signExtend}
 use Rattle.card.specs.Card.{Card, Outcome, Request, read, write}
 use Rattle.card.specs.Memory.{readLE, writeLE, load, direct, store}
@@ -33,16 +33,19 @@ ops =
     ∷ record { fast = LdPost 3 4 B8 true 4; len = 2; glue = false }
     ∷ []
 
-abbrev block : List BOp → Block
-block os =
+abbrev blockOf : (map : Bool) → List BOp → Block
+blockOf m os =
     record {
       layout = record { regs = 0; sp = 64; rets = 68; pc = 72; hold = 76 };
-      memory = record { «ram_base» = 0x1000; «ram_len» = 8; «xip_base» = 0x2000; «xip_len» = 4; map = false };
+      memory = record { «ram_base» = 0x1000; «ram_len» = 8; «xip_base» = 0x2000; «xip_len» = 4; map = m };
       addresses = record { «h_read» = 0; «h_write» = 0; table = 0 };
       pc0 = 0x2000000;
       ops = os;
       n = length os;
     }
+
+abbrev block : List BOp → Block
+block = blockOf false
 
 abbrev ram : List ℕ
 ram = 1 ∷ 2 ∷ 3 ∷ 4 ∷ 5 ∷ 6 ∷ 7 ∷ 8 ∷ []
@@ -143,3 +146,49 @@ pub pair-stored
     ≡ left (chains 0) (cardOf 0 0x22 0x33 0 0x1004 7 (0x22 ∷ 0 ∷ 0 ∷ 0 ∷ 0x33 ∷ 0 ∷ 0 ∷ 0 ∷ []) 0 0x2000004 11 [] [])
 unfolding run opsFrom opStep storeAll store direct writeLE
 pair-stored = refl
+
+-- ---- 2026-04: r2 stored at 0x1001 or 0x1002, with code in the second group of 4 bytes, into which it reaches
+abbrev mapped : Card → Card
+mapped c =
+    record {
+      regs = c .regs;
+      sp = c .sp;
+      rets = c .rets;
+      hold = c .hold;
+      ram = c .ram;
+      map = 0 ∷ 1 ∷ [];
+      brk = c .brk;
+      pc = c .pc;
+      done = c .done;
+      requests = c .requests;
+      outcomes = c .outcomes;
+    }
+
+abbrev stored : (map : Bool) → Fast → List Outcome → End
+stored m f os =
+    run (blockOf m (record { fast = f; len = 4; glue = false } ∷ [])) [] 11 (mapped (cardOf 0x1001 0x11223344 0 0 0 7 ram 0 0 10 [] os))
+
+abbrev ends : (ram : List ℕ) → List Request → End
+ends bytes qs = left (chains 0) (mapped (cardOf 0x1001 0x11223344 0 0 0 7 bytes 0 0x2000004 11 qs []))
+
+-- the outside alters nothing
+abbrev kept : Outcome
+kept = record { answer = 0; brk = 0; ram = ram; map = 0 ∷ 1 ∷ [] }
+
+-- alone, with a code map: the write helper, be it for address bit 0 or for bit 1
+pub bit-0-asks : stored true (St 2 (Reg 1) 0 B32) (kept ∷ []) ≡ ends ram (write 0x1001 4 10 0x11223344 ∷ [])
+unfolding run opsFrom opStep store direct readLE
+bit-0-asks = refl
+
+pub bit-1-asks : stored true (St 2 (Reg 1) 1 B32) (kept ∷ []) ≡ ends ram (write 0x1002 4 10 0x11223344 ∷ [])
+unfolding run opsFrom opStep store direct readLE
+bit-1-asks = refl
+
+-- the word of a group, and a word without a code map: RAM
+pub group-writes : stored true (BlockMove 1 0x0004 true false false) [] ≡ ends (1 ∷ 0x44 ∷ 0x33 ∷ 0x22 ∷ 0x11 ∷ 6 ∷ 7 ∷ 8 ∷ []) []
+unfolding run opsFrom opStep storeAll store direct readLE writeLE places
+group-writes = refl
+
+pub flag-0-writes : stored false (St 2 (Reg 1) 0 B32) [] ≡ ends (1 ∷ 0x44 ∷ 0x33 ∷ 0x22 ∷ 0x11 ∷ 6 ∷ 7 ∷ 8 ∷ []) []
+unfolding run opsFrom opStep store direct readLE writeLE
+flag-0-writes = refl

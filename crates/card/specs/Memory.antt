@@ -35,7 +35,8 @@ evenIfHalf B8 o = o
 evenIfHalf B16 o = o - o % 2
 evenIfHalf B32 o = o
 
--- "A halfword load reads at the address with its lowest bit cleared." "A word access is direct at any alignment."
+-- "A halfword load reads at the address with its lowest bit cleared." "A word access is direct at any alignment": a load, and a store
+-- but for `unaligned`
 abbrev pub loadOffset : Width → (address base : ℕ) → ℕ
 loadOffset w a base = evenIfHalf w (minus a base)
 
@@ -65,24 +66,26 @@ load m flash i w signed a c =
     ask (read a (bytes w) (plus (c .done) i)) (c .outcomes) c)))
 
 -- ---- `store`, of operation number i
-abbrev pub oddHalf : Width → ℕ → Bool
-oddHalf B8 a = false
-oddHalf B16 a = eqb (a % 2) 1
-oddHalf B32 a = false
+-- "An odd halfword store goes to the write helper." 2026-04: "With map flag 1 a word store whose address isn't a multiple of 4 goes to
+-- the write helper."
+abbrev pub unaligned : (words : Bool) → Width → (address : ℕ) → Bool
+unaligned words B8 a = false
+unaligned words B16 a = eqb (a % 2) 1
+unaligned words B32 a = words && not (eqb (a % 4) 0)
 
 -- "The code map (one byte per 4 RAM bytes, rounded up) is asked for the group holding the store's first byte; nonzero means the
 -- write helper."
 abbrev pub holdsCode : Memory → (offset : ℕ) → Card → Bool
 holdsCode m o c = m .map && not (eqb (readLE (c .map) (o / 4) 1) 0)
 
--- "An odd halfword store goes to the write helper."
-unfoldable pub direct : Memory → Width → (address : ℕ) → Card → Bool
-direct m w a c =
+-- alone: a store of its own, no word of a group: "A group of 2026-01 is no word store here"
+unfoldable pub direct : Memory → Width → (alone : Bool) → (address : ℕ) → Card → Bool
+direct m w alone a c =
     let o : ℕ = minus a (m .«ram_base») in
-    not (oddHalf w a) && inside w o (m .«ram_len») && not (holdsCode m o c)
+    not (unaligned (alone && m .map) w a) && inside w o (m .«ram_len») && not (holdsCode m o c)
 
 -- the number of a store means nothing
-unfoldable pub store : Memory → (i : ℕ) → Width → (address value : ℕ) → Card → Access
-store m i w a v c =
-    cond (direct m w a c) (got 0 (setRam (writeLE (c .ram) (minus a (m .«ram_base»)) (bytes w) v) c)) (
+unfoldable pub store : Memory → (i : ℕ) → Width → (alone : Bool) → (address value : ℕ) → Card → Access
+store m i w alone a v c =
+    cond (direct m w alone a c) (got 0 (setRam (writeLE (c .ram) (minus a (m .«ram_base»)) (bytes w) v) c)) (
     ask (write a (bytes w) (plus (c .done) i) v) (c .outcomes) c)

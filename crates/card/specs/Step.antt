@@ -5,7 +5,7 @@ use Prim.Native.Nat.{ℕ, suc, _-_, _*_, _^_}
 use lib.Bits.{bitAnd, bitOr, bitXor}
 use lib.Dec.{eqb}
 use Rattle.block.specs.Block.{members, span, saved, pairOf}
-use Rattle.card.specs.Kinds.{RmwOp, RmwOr, RmwAnd, RmwXor, RmwAdd, RmwSub, RmwMov, Cond, Eq, Ne, Width, B32, Memory}
+use Rattle.card.specs.Kinds.{RmwOp, RmwOr, RmwAnd, RmwXor, RmwAdd, RmwSub, RmwMov, Eq, Ne, Width, B32, Memory}
 use Rattle.card.specs.Kinds.{Fast, Nop, MovI, Mov, AddRI, ShlI, SarI, Alu3, Alu3I, Alu2, Alu2I, A4, Ext, MinMax, Un, Div, Mov2}
 use Rattle.card.specs.Kinds.{Mov2I, BitExt, BitIns, SpAdd, RFromSp, Ld, St, LdIdx, StIdx, LdPost, StPost, Rmw, PushRet, PopRets}
 use Rattle.card.specs.Kinds.{BrI, BrR, DecBr, BitBr, Goto, Call, Rts, GotoR, CallR, PopRet, BlockMove, PushRets, PopPc, LdPair}
@@ -53,7 +53,7 @@ indBrk i target c = cond (eqb (c .brk) 0) (ind i target c) (out exits (arrive ta
 
 -- kind 27: w bytes are loaded, zero-extended, and f of them is stored
 abbrev pub modify : Memory → (flash : List ℕ) → (i : ℕ) → Width → (address : ℕ) → (ℕ → ℕ) → Card → After
-modify m flash i w a f c = withLoaded (load m flash i w false a c) (λ x c₁. withStored (store m i w a (f x) c₁) (λ c₂. on c₂))
+modify m flash i w a f c = withLoaded (load m flash i w false a c) (λ x c₁. withStored (store m i w true a (f x) c₁) (λ c₂. on c₂))
 
 -- `Mov` stores without a load
 abbrev pub rmw : Memory → (flash : List ℕ) → (i : ℕ) → Width → RmwOp → (address v : ℕ) → Card → After
@@ -62,9 +62,9 @@ rmw m flash i w RmwAnd a v c = modify m flash i w a (λ x. bitAnd x v) c
 rmw m flash i w RmwXor a v c = modify m flash i w a (λ x. bitXor x v) c
 rmw m flash i w RmwAdd a v c = modify m flash i w a (λ x. plus x v) c
 rmw m flash i w RmwSub a v c = modify m flash i w a (λ x. minus x v) c
-rmw m flash i w RmwMov a v c = withStored (store m i w a v c) (λ c₁. on c₁)
+rmw m flash i w RmwMov a v c = withStored (store m i w true a v c) (λ c₁. on c₁)
 
--- ---- groups: each word is a load or store of its own, RAM tried first, then XIP for a load, then the outside
+-- ---- groups: word after word, RAM tried first, then XIP for a load, then the outside; no word of them is a word store of 2026-04
 -- these registers, the first from place k of the words at an address; then what follows
 unfoldable pub loadAll : Memory → (flash : List ℕ) → (i start k : ℕ) → List ℕ → Card → (Card → After) → After
 loadAll m flash i start k [] c f = f c
@@ -74,7 +74,7 @@ loadAll m flash i start k (r ∷ rs) c f =
 unfoldable pub storeAll : Memory → (i start k : ℕ) → List ℕ → Card → (Card → After) → After
 storeAll m i start k [] c f = f c
 storeAll m i start k (r ∷ rs) c f =
-    withStored (store m i B32 (plus start (4 * k)) (reg c r) c) (λ c₁. storeAll m i start (suc k) rs c₁ f)
+    withStored (store m i B32 false (plus start (4 * k)) (reg c r) c) (λ c₁. storeAll m i start (suc k) rs c₁ f)
 
 abbrev pub moveAll : Memory → (flash : List ℕ) → (i : ℕ) → (store : Bool) → (start : ℕ) → List ℕ → Card → (Card → After) → After
 moveAll m flash i true start rs c f = storeAll m i start 0 rs c f
@@ -94,15 +94,15 @@ setIf true r v c = setReg r v c
 setIf false r v c = c
 
 -- a word pushed, and one popped
-abbrev pub push : Memory → (i value : ℕ) → Card → (Card → After) → After
-push m i v c f = withStored (store m i B32 (minus (c .sp) 4) v (setSp (minus (c .sp) 4) c)) f
+abbrev pub push : Memory → (alone : Bool) → (i value : ℕ) → Card → (Card → After) → After
+push m alone i v c f = withStored (store m i B32 alone (minus (c .sp) 4) v (setSp (minus (c .sp) 4) c)) f
 
 abbrev pub pop : Memory → (flash : List ℕ) → (i : ℕ) → Card → (ℕ → Card → After) → After
 pop m flash i c f = withLoaded (load m flash i B32 false (c .sp) c) f
 
 unfoldable pub pushAll : Memory → (i : ℕ) → List ℕ → Card → (Card → After) → After
 pushAll m i [] c f = f c
-pushAll m i (r ∷ rs) c f = push m i (reg c r) c (λ c₁. pushAll m i rs c₁ f)
+pushAll m i (r ∷ rs) c f = push m false i (reg c r) c (λ c₁. pushAll m i rs c₁ f)
 
 unfoldable pub popAll : Memory → (flash : List ℕ) → (i : ℕ) → List ℕ → Card → (Card → After) → After
 popAll m flash i [] c f = f c
@@ -133,15 +133,15 @@ opStep m flash i next (BitIns d s p l) c = on (setReg d (bitIns p l (reg c d) (r
 opStep m flash i next (SpAdd v) c = on (addSp v c)
 opStep m flash i next (RFromSp d v) c = on (setReg d (plus (c .sp) v) c)
 opStep m flash i next (Ld d b off w signed) c = withLoaded (load m flash i w signed (plus (baseOf c b) off) c) (λ v c₁. on (setReg d v c₁))
-opStep m flash i next (St s b off w) c = withStored (store m i w (plus (baseOf c b) off) (reg c s) c) (λ c₁. on c₁)
+opStep m flash i next (St s b off w) c = withStored (store m i w true (plus (baseOf c b) off) (reg c s) c) (λ c₁. on c₁)
 opStep m flash i next (LdIdx d b x sh w signed) c =
     withLoaded (load m flash i w signed (plus (reg c b) (shl (reg c x) sh)) c) (λ v c₁. on (setReg d v c₁))
-opStep m flash i next (StIdx s b x sh w) c = withStored (store m i w (plus (reg c b) (shl (reg c x) sh)) (reg c s) c) (λ c₁. on c₁)
+opStep m flash i next (StIdx s b x sh w) c = withStored (store m i w true (plus (reg c b) (shl (reg c x) sh)) (reg c s) c) (λ c₁. on c₁)
 -- "LdPost with d = b adds the increment to the loaded value."
 opStep m flash i next (LdPost d b w signed inc) c = withLoaded (load m flash i w signed (reg c b) c) (λ v c₁. on (addReg b inc (setReg d v c₁)))
-opStep m flash i next (StPost s b w inc) c = withStored (store m i w (reg c b) (reg c s) c) (λ c₁. on (addReg b inc c₁))
+opStep m flash i next (StPost s b w inc) c = withStored (store m i w true (reg c b) (reg c s) c) (λ c₁. on (addReg b inc c₁))
 opStep m flash i next (Rmw b w op off v) c = rmw m flash i w op (plus (reg c b) off) v c
-opStep m flash i next PushRet c = push m i (c .rets) c (λ c₁. on c₁)
+opStep m flash i next PushRet c = push m true i (c .rets) c (λ c₁. on c₁)
 opStep m flash i next PopRets c = pop m flash i c (λ v c₁. on (addSp 4 (setRets v c₁)))
 opStep m flash i next (BrI a v q target) c = fork (holds q (reg c a) v) i next target c
 opStep m flash i next (BrR a b q target) c = fork (holds q (reg c a) (reg c b)) i next target c
@@ -157,7 +157,7 @@ opStep m flash i next PopRet c = pop m flash i c (λ v c₁. indBrk i v (addSp 4
 opStep m flash i next (BlockMove r mask u post down) c =
     let start : ℕ = moveStart down (reg c r) (span mask) in
     moveAll m flash i u start (members mask) c (λ c₁. on (setIf post r (moveEnd down start (span mask)) c₁))
-opStep m flash i next (PushRets n) c = push m i (c .rets) c (λ c₁. pushAll m i (reverse (saved n)) c₁ (λ c₂. on c₂))
+opStep m flash i next (PushRets n) c = push m false i (c .rets) c (λ c₁. pushAll m i (reverse (saved n)) c₁ (λ c₂. on c₂))
 opStep m flash i next (PopPc n) c = popAll m flash i (saved n) c (λ c₁. pop m flash i c₁ (λ v c₂. indBrk i v (addSp 4 c₂)))
 -- the address stays as it was before the first load
 opStep m flash i next (LdPair p b off) c = loadAll m flash i (plus (baseOf c b) off) 0 (pairOf p) c (λ c₁. on c₁)

@@ -2,6 +2,7 @@ pub mod Arithmetic
 pub mod Fields
 pub mod Loads
 pub mod Stores
+pub mod WordStores
 pub mod Jumps
 pub mod Masks
 pub mod Spans

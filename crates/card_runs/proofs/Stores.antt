@@ -93,9 +93,10 @@ cases =
     (hex 56 0x26797a6194950dc3b656b26330dd2e0a3ca70ca4a750354d55a7b233f40ebe1122500093b0bc6459031ef3e8ff56b89849e2885a34486380) 0x8a72ed65
     (card (regs 0x0000000f9b7ebfbaffffffe00000008000000fff92f0e5bd0000001c00008000
     0x3f5ef16180000000fffffff500010000d351bd7cc72d31dd00fff000259072f3) 0x10006 4 1 0 0xaa53ba75 0 (hex 12 0xc3a9d38ee804bcab9b433b1f)
-    (hex 3 0x010001) (outcome 0x7c 1 (hex 12 0x7d837f88db35c1d34eadfbeb) (hex 3 0x654563)
+    (hex 3 0x010001) (outcome 0 0 (hex 12 0xc3a9d38ee804bcab9b433b1f) (hex 3 0x010001)
+    ∷ outcome 0x7c 1 (hex 12 0x7d837f88db35c1d34eadfbeb) (hex 3 0x654563)
     ∷ outcome 0x7e 0 (hex 12 0x061f037e31481e9fa945cc35) (hex 3 0x82f9e6) ∷ []))
-    [] (byChain 0) (pc 0x2ed4356 & done 1 & ram (hex 12 0xc3a9d38ee804f37290253b1f)) []
+    [] (byChain 0) (pc 0x2ed4356 & done 1) (write 6 4 0 0x259072f3 ∷ [])
     -- 22-St/break-start-glue-1/0
     ∷ runs (block (memory 0xfffffff4 0xc 0x1000 5 true) 0x3ffffff (op (St 4 (Reg 11) 0xfffffff3 B8) 2 true
     ∷ op (Alu3 2 2 0xc AndNot) 2 false ∷ op (SarI 0xe 0xe 0) 4 false ∷ op Nop 4 true ∷ [])) (hex 5 0xda8c0c0614) 0xffffffff
@@ -129,9 +130,11 @@ cases =
     (hex 36 0x2786c9fb466ad3680f3e57dae20ed4b4e0319445fae2ec9795a5b1b0f417a8ba5b5a25cf) 3
     (card (regs 0x0000000cc3647f9700000003000000040000008000007ffffffff001056fe11d
     0xffffffde0000000200000020fffffff80000001f000000230000000100000007) 0x74d3fc5b 0x12 0 0 0xfe97c768 0
-    (hex 14 0xb361aae2c2ce9ee5fea61a2b7b99) (hex 4 0x00000000) (outcome 8 1 (hex 14 0x8a2a8e1850db19af9a219b2b823d) (hex 4 0xb615ca97)
+    (hex 14 0xb361aae2c2ce9ee5fea61a2b7b99) (hex 4 0x00000000) (outcome 0 0 (hex 14 0xb361aae2c2ce9ecafea61a2b7b99) (hex 4 0x00000000)
+    ∷ outcome 8 1 (hex 14 0x8a2a8e1850db19af9a219b2b823d) (hex 4 0xb615ca97)
     ∷ outcome 0x36 1 (hex 14 0x479dfd5d19a22c5ae1c9c2fb8a86) (hex 4 0x7ab3d684) ∷ []))
-    [] (byChain 0) (reg 4 0xffff & reg 15 0 & pc 0x3e0a696 & done 3 & ram (hex 14 0xb361aae2c2ce9ee5fea61de16f05)) []
+    [] (byChain 0) (reg 4 0xffff & reg 15 0 & pc 0x3e0a696 & done 3 & ram (hex 14 0xb361aae2c2ce9ecafea61a2b7b99))
+    (write 0xfffffffa 4 0 0x56fe11d ∷ [])
     -- 26-StPost/ram-over/0
     ∷ runs (block (memory 0x1000 6 0xfffffff0 0x10 false) 0x371e3c9 (op (StPost 7 9 B16 2) 4 false
     ∷ op (BitBr 0xf RkBit false 0 0x371e3c9) 0xff false ∷ [])) (hex 16 0x45316bf49b57fdae4d8ff0e6f8dc17c8) 0x7e3b3aad

@@ -45,7 +45,7 @@ module _ (i low : ℕ) where
   no-push k h = let e : k ≡ 0 = omega arith in ap (λ n. pushAll i (reverse (upFrom low n))) e
 
   pub a-push : (k : ℕ) → 0 < k
-      → pushAll i (reverse (upFrom low k)) ≡ push i (Step.ldReg 1 (low + (k - 1))) ++ pushAll i (reverse (upFrom low (k - 1)))
+      → pushAll i (reverse (upFrom low k)) ≡ push false i (Step.ldReg 1 (low + (k - 1))) ++ pushAll i (reverse (upFrom low (k - 1)))
   unfolding pushAll
   a-push k h =
       let e : k ≡ suc (k - 1) = omega arith in

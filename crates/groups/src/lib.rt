@@ -37,7 +37,7 @@ fn store_word(
 {
     let q = lower::add_imm(out, tab, q, 0, KEEP, 4 * k);
     let q = lower::ld_reg(out, tab, q, lay, 1, r);
-    lower::store(out, tab, q, lay, mem, addr, Width::Word, i)
+    lower::store(out, tab, q, lay, mem, addr, Width::Word, false, i)
 }
 
 // Register r from the k-th of them.
@@ -166,13 +166,13 @@ fn push_reg(
     i: u32,
     r: u8,
 ) -> Lowered
-    ensures { λ p. ⌜ (Lowers (given lay mem addr) (push i (Meant.ldReg 1 r)) (now (out .entry)) (now (tab .entry)) q (now (out .exit)) (now (tab .exit)) p) ⌝ }
+    ensures { λ p. ⌜ (Lowers (given lay mem addr) (push false i (Meant.ldReg 1 r)) (now (out .entry)) (now (tab .entry)) q (now (out .exit)) (now (tab .exit)) p) ⌝ }
 {
     let q = lower::ld_field(out, tab, q, lay.sp, 0);
     let q = lower::named(out, tab, q, Fixed::SubI004);
     let q = lower::st_field(out, tab, q, lay.sp, 0);
     let q = lower::ld_reg(out, tab, q, lay, 1, r);
-    lower::store(out, tab, q, lay, mem, addr, Width::Word, i)
+    lower::store(out, tab, q, lay, mem, addr, Width::Word, false, i)
 }
 
 // Register r from the stack.
@@ -256,7 +256,7 @@ pub fn push_rets(
 ) -> Lowered
     ensures { λ p. ⌜ ((next : ℕ) → Lowers (given lay mem addr) (lowered (Fast.PushRets n) i next) (now (out .entry)) (now (tab .entry)) q (now (out .exit)) (now (tab .exit)) p) ⌝ }
 {
-    let q = bus::push_ret(out, tab, q, lay, mem, addr, i);
+    let q = bus::rets_to_stack(out, tab, q, lay, mem, addr, false, i);
     push_regs(out, tab, q, lay, mem, addr, i, n)
 }
 

@@ -110,11 +110,11 @@ module _ (b : Block) (flash : List ℕ) (limit i : ℕ) where
       by (got v d) l = h v d l
       by unmet l = tt
 
-  pub after-store : (w : Width) (p v : ℕ) (c : Card) (t : ℕ → Option ℕ) (g : Card → After) (ss : List Step)
+  pub after-store : (w : Width) (alone : Bool) (p v : ℕ) (c : Card) (t : ℕ → Option ℕ) (g : Card → After) (ss : List Step)
       → ((c : Card) → Agrees (g c) (mrun b flash limit ss (stored t c)))
-      → Agrees (withStored (store (b .memory) i w p v c) g)
-      (andThen (ifGot (store (b .memory) i w p v c) (λ u d. go (stored t d))) (λ a. mrun b flash limit ss a))
-  after-store w p v c t g ss h = by (store (b .memory) i w p v c)
+      → Agrees (withStored (store (b .memory) i w alone p v c) g)
+      (andThen (ifGot (store (b .memory) i w alone p v c) (λ u d. go (stored t d))) (λ a. mrun b flash limit ss a))
+  after-store w alone p v c t g ss h = by (store (b .memory) i w alone p v c)
     where
       by : (r : Access) → Agrees (withStored r g) (andThen (ifGot r (λ u d. go (stored t d))) (λ a. mrun b flash limit ss a))
       by (got u d) = h d
@@ -130,14 +130,15 @@ module _ (b : Block) (flash : List ℕ) (limit i : ℕ) where
   on-agrees a = refl
 
   -- what a step puts into w1 is pushed
-  pub push-agrees : (s : Step) (value : Card → ℕ) → ((a : Abs) → mstep b flash limit s a ≡ go (withTemp 1 (some (value (a .c))) a))
+  pub push-agrees : (alone : Bool) (s : Step) (value : Card → ℕ)
+      → ((a : Abs) → mstep b flash limit s a ≡ go (withTemp 1 (some (value (a .c))) a))
       → (g : Card → After) (ss : List Step) → Always g ss
-      → Always (λ c. push (b .memory) i (value (setSp (minus (c .sp) 4) c)) c g) (pushSteps i s ++ ss)
+      → Always (λ c. push (b .memory) alone i (value (setSp (minus (c .sp) 4) c)) c g) (pushSteps alone i s ++ ss)
   unfolding mrun mstep mdata dataOf seen upd
-  push-agrees s value e g ss h a =
+  push-agrees alone s value e g ss h a =
       let x : ℕ = minus (a .c .sp) 4 in
       rw (sub-imm-value (a .c .sp) 4 (omega arith), e (withCard (setSp x (a .c)) (with0 x (with0 (a .c .sp) a))))
-      (after-store B32 _ _ _ _ _ ss (λ c. h _))
+      (after-store B32 alone _ _ _ _ _ ss (λ c. h _))
 
   -- what is popped goes where a step puts w0
   pub pop-agrees : (s : Step) (put : ℕ → Card → Card)
@@ -152,7 +153,7 @@ module _ (b : Block) (flash : List ℕ) (limit i : ℕ) where
   -- ---- what is read at p, changed by an instruction on w0 and w2, and stored there again
   module _ (w : Width) (v p : ℕ) (hv : v < 2 ^ 32) (hp : p < 2 ^ 32) (t : ℕ → Option ℕ) (q : t KEEP ≡ some p) where
     abbrev changing : Instr → List Step
-    changing f = Step.mov32 2 v ∷ Step.ins f ∷ Step.ins (mov 0 KEEP) ∷ Step.store w i ∷ []
+    changing f = Step.mov32 2 v ∷ Step.ins f ∷ Step.ins (mov 0 KEEP) ∷ Step.store w true i ∷ []
 
     changes : (ℕ → ℕ) → Instr → Type 0
     changes g f =
@@ -163,31 +164,31 @@ module _ (b : Block) (flash : List ℕ) (limit i : ℕ) where
     unfolding changes mrun mstep mdata dataOf seen upd kill
     by-or c =
         after-load w false _ _ _ _ (changing (orr 1 0 2))
-        (λ x d h. rw (or-value x v h hv, q, mov-value p hp) (after-store w _ _ _ _ _ [] (λ e. refl)))
+        (λ x d h. rw (or-value x v h hv, q, mov-value p hp) (after-store w true _ _ _ _ _ [] (λ e. refl)))
 
     by-and : changes (λ x. bitAnd x v) (and 1 0 2)
     unfolding changes mrun mstep mdata dataOf seen upd kill
     by-and c =
         after-load w false _ _ _ _ (changing (and 1 0 2))
-        (λ x d h. rw (and-value x v h hv, q, mov-value p hp) (after-store w _ _ _ _ _ [] (λ e. refl)))
+        (λ x d h. rw (and-value x v h hv, q, mov-value p hp) (after-store w true _ _ _ _ _ [] (λ e. refl)))
 
     by-xor : changes (λ x. bitXor x v) (eor 1 0 2)
     unfolding changes mrun mstep mdata dataOf seen upd kill
     by-xor c =
         after-load w false _ _ _ _ (changing (eor 1 0 2))
-        (λ x d h. rw (xor-value x v h hv, q, mov-value p hp) (after-store w _ _ _ _ _ [] (λ e. refl)))
+        (λ x d h. rw (xor-value x v h hv, q, mov-value p hp) (after-store w true _ _ _ _ _ [] (λ e. refl)))
 
     by-add : changes (λ x. plus x v) (add 1 0 2)
     unfolding changes mrun mstep mdata dataOf seen upd kill
     by-add c =
         after-load w false _ _ _ _ (changing (add 1 0 2))
-        (λ x d h. rw (add-value x v h hv, q, mov-value p hp) (after-store w _ _ _ _ _ [] (λ e. refl)))
+        (λ x d h. rw (add-value x v h hv, q, mov-value p hp) (after-store w true _ _ _ _ _ [] (λ e. refl)))
 
     by-sub : changes (λ x. minus x v) (sub 1 0 2)
     unfolding changes mrun mstep mdata dataOf seen upd kill
     by-sub c =
         after-load w false _ _ _ _ (changing (sub 1 0 2))
-        (λ x d h. rw (sub-value x v h hv, q, mov-value p hp) (after-store w _ _ _ _ _ [] (λ e. refl)))
+        (λ x d h. rw (sub-value x v h hv, q, mov-value p hp) (after-store w true _ _ _ _ _ [] (λ e. refl)))
 
   module _ (next : ℕ) (a : Abs) (small : Small (a .c)) where
     abbrev k : Fast → Type 0
@@ -200,8 +201,8 @@ module _ (b : Block) (flash : List ℕ) (limit i : ℕ) where
 
     pub st : (s : ℕ) (base : Base) (off : ℕ) (w : Width) → k (St s base off w)
     unfolding kind opStep mrun lowered mstep upd
-    st s (Reg r) off w = after-store w _ _ _ _ _ [] (λ c. refl)
-    st s Sp off w = after-store w _ _ _ _ _ [] (λ c. refl)
+    st s (Reg r) off w = after-store w true _ _ _ _ _ [] (λ c. refl)
+    st s Sp off w = after-store w true _ _ _ _ _ [] (λ c. refl)
 
     -- w0 + (w1 << sh)
     index-value : (x y sh : ℕ) → addSub W Add x (shifted W Lsl y (sh % 32)) .result % 2 ^ 32 ≡ plus x (shl y sh)
@@ -214,7 +215,7 @@ module _ (b : Block) (flash : List ℕ) (limit i : ℕ) where
 
     pub stIdx : (s r x sh : ℕ) (w : Width) → k (StIdx s r x sh w)
     unfolding kind opStep mrun lowered mstep upd mdata dataOf seen
-    stIdx s r x sh w = rw (index-value (reg (a .c) r) (reg (a .c) x) sh) (after-store w _ _ _ _ _ [] (λ c. refl))
+    stIdx s r x sh w = rw (index-value (reg (a .c) r) (reg (a .c) x) sh) (after-store w true _ _ _ _ _ [] (λ c. refl))
 
     -- the increment to register r, behind the access
     abbrev adding : (r inc : ℕ) → List Step
@@ -226,11 +227,11 @@ module _ (b : Block) (flash : List ℕ) (limit i : ℕ) where
 
     pub stPost : (s r : ℕ) (w : Width) (inc : ℕ) → k (StPost s r w inc)
     unfolding kind opStep mrun lowered mstep upd
-    stPost s r w inc = after-store w _ _ _ _ _ (adding r inc) (λ c. refl)
+    stPost s r w inc = after-store w true _ _ _ _ _ (adding r inc) (λ c. refl)
 
     pub pushRet : k PushRet
     unfolding kind opStep lowered mstep
-    pushRet = push-agrees (Step.ldField rets 1) (λ c. c .rets) (λ a₁. refl) (λ c. on c) [] on-agrees a
+    pushRet = push-agrees true (Step.ldField rets 1) (λ c. c .rets) (λ a₁. refl) (λ c. on c) [] on-agrees a
 
     pub popRets : k PopRets
     unfolding kind opStep lowered mstep upd
@@ -250,4 +251,4 @@ module _ (b : Block) (flash : List ℕ) (limit i : ℕ) where
     rmw-kind r w RmwXor off v h = rw (kept-address r off) (by-xor w v _ h (address-lt r off) _ refl (a .c))
     rmw-kind r w RmwAdd off v h = rw (kept-address r off) (by-add w v _ h (address-lt r off) _ refl (a .c))
     rmw-kind r w RmwSub off v h = rw (kept-address r off) (by-sub w v _ h (address-lt r off) _ refl (a .c))
-    rmw-kind r w RmwMov off v h = rw (kept-address r off) (after-store w _ _ _ _ _ [] (λ c. refl))
+    rmw-kind r w RmwMov off v h = rw (kept-address r off) (after-store w true _ _ _ _ _ [] (λ c. refl))

@@ -147,9 +147,9 @@ module _ (i : ℕ) (hi : i < 32) where
   words-fit u k (r ∷ rs) h l =
       fit-append (moveWord u i k r) _ (word-fits u k r (omega arith) (l .0)) (words-fit u (suc k) rs (omega arith) (l .1))
 
-  push-fits : (s : Step) → StepFits s → AllFit (push i s)
+  push-fits : (alone : Bool) (s : Step) → StepFits s → AllFit (push alone i s)
   unfolding StepFits onTemps tempOrZero temp cls
-  push-fits s h = (refl, (tt, (refl, (h, (hi, tt)))))
+  push-fits alone s h = (refl, (tt, (refl, (h, (hi, tt)))))
 
   pop-fits : (s : Step) → StepFits s → AllFit (pop i s)
   unfolding StepFits onTemps tempOrZero temp cls
@@ -159,7 +159,7 @@ module _ (i : ℕ) (hi : i < 32) where
   unfolding pushAll StepFits cls
   pushes-fit [] h = tt
   pushes-fit (r ∷ rs) h =
-      fit-append (push i (Step.ldReg 1 r)) (pushAll i rs) (push-fits (Step.ldReg 1 r) (refl, h .0)) (pushes-fit rs (h .1))
+      fit-append (push false i (Step.ldReg 1 r)) (pushAll i rs) (push-fits false (Step.ldReg 1 r) (refl, h .0)) (pushes-fit rs (h .1))
 
   pops-fit : (rs : List ℕ) → Registers rs → AllFit (popAll i rs)
   unfolding popAll StepFits cls
@@ -213,9 +213,9 @@ module _ (i next : ℕ) (hi : i < 32) (hn : next < 2 ^ 32) where
   kind-fits (StPost s r w inc) h =
       ((refl, h .1), ((refl, h .0), (hi, ((refl, h .1), ((refl, refl, (λ e. omega arith), h .2), ((refl, h .1), tt))))))
   kind-fits (Rmw r w op o v) h =
-      let store : AllFit (Step.ins (mov 0 KEEP) ∷ Step.store w i ∷ []) = (tt, (hi, tt)) in
+      let store : AllFit (Step.ins (mov 0 KEEP) ∷ Step.store w true i ∷ []) = (tt, (hi, tt)) in
       ((refl, h .0), ((refl, refl, (λ e. omega arith), h .1), fit-append (rmwValue op w v i) _ (rmw-fits op w v i (h .2) hi) store))
-  kind-fits PushRet h = push-fits i hi (Step.ldField rets 1) refl
+  kind-fits PushRet h = push-fits i hi true (Step.ldField rets 1) refl
   kind-fits PopRets h = pop-fits i hi (Step.stField rets 0) refl
   kind-fits (BrI r v q target) h = ((refl, h .0), ((refl, h .1), (tt, ((hn, h .2, count-lt), tt))))
   kind-fits (BrR r s q target) h = ((refl, h .0), ((refl, h .1), (tt, ((hn, h .2, count-lt), tt))))
@@ -235,7 +235,7 @@ module _ (i next : ℕ) (hi : i < 32) (hn : next < 2 ^ 32) where
           (words-fit i hi u 0 (members mask) (omega (arith, members-few mask)) (members-in mask))
           (moved-base-fits post down (span mask) r (omega (arith, members-few mask)) (h .0))
   kind-fits (PushRets n) h =
-      fit-append (push i (Step.ldField rets 1)) (pushAll i (reverse (saved n))) (push-fits i hi (Step.ldField rets 1) refl)
+      fit-append (push false i (Step.ldField rets 1)) (pushAll i (reverse (saved n))) (push-fits i hi false (Step.ldField rets 1) refl)
       (pushes-fit i hi (reverse (saved n)) (reverse-in (saved n) (saved-in n h)))
   kind-fits (PopPc n) h = fit-append (popAll i (saved n)) _ (pops-fit i hi (saved n) (saved-in n h)) (pc-fits i hi)
   kind-fits (LdPair p r o) h =

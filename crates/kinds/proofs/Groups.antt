@@ -56,11 +56,11 @@ module _ (b : Block) (flash : List ℕ) (limit i : ℕ) where
       rw q (after-load b flash limit i B32 false _ _ t _ (Step.stReg 0 r ∷ ss) (λ v c l. h (withCard (setReg r v c) (loaded t v c)) q))
 
   store-agrees : (x r k : ℕ) (g : Card → After) (ss : List Step) → Keeping x g ss
-      → Keeping x (λ c. withStored (store (b .memory) i B32 (plus x (4 * k)) (reg c r) c) g) (moveWord true i k r ++ ss)
+      → Keeping x (λ c. withStored (store (b .memory) i B32 false (plus x (4 * k)) (reg c r) c) g) (moveWord true i k r ++ ss)
   unfolding mrun mstep upd kill
   store-agrees x r k g ss h a q =
       let t : ℕ → Option ℕ = withTemp 1 (some (reg (a .c) r)) (with0 (plus x (4 * k)) (withTemp 9 none a)) .t in
-      rw q (after-store b flash limit i B32 _ _ _ t _ ss (λ c. h (stored t c) q))
+      rw q (after-store b flash limit i B32 false _ _ _ t _ ss (λ c. h (stored t c) q))
 
   -- ---- by induction on the registers
   module _ (f : Card → After) (ts : List Step) where
@@ -81,7 +81,8 @@ module _ (b : Block) (flash : List ℕ) (limit i : ℕ) where
     unfolding pushAll pushAllSteps mstep
     pushes-agree h [] = h
     pushes-agree h (r ∷ rs) =
-        push-agrees b flash limit i (Step.ldReg 1 r) (λ c. reg c r) (λ a. refl) (λ c. pushAll (b .memory) i rs c f) _ (pushes-agree h rs)
+        push-agrees b flash limit i false (Step.ldReg 1 r) (λ c. reg c r) (λ a. refl) (λ c. pushAll (b .memory) i rs c f) _
+        (pushes-agree h rs)
 
     pops-agree : Always b flash limit i f ts → (rs : List ℕ)
         → Always b flash limit i (λ c. popAll (b .memory) flash i rs c f) (popAllSteps i rs ++ ts)
@@ -146,7 +147,7 @@ module _ (b : Block) (flash : List ℕ) (limit i : ℕ) where
     pub pushRets : (n : ℕ) → k (PushRets n)
     unfolding kind opStep lowered mstep
     pushRets n =
-        push-agrees b flash limit i (Step.ldField rets 1) (λ c. c .rets) (λ a₁. refl) _ (pushAllSteps i (reverse (saved n)))
+        push-agrees b flash limit i false (Step.ldField rets 1) (λ c. c .rets) (λ a₁. refl) _ (pushAllSteps i (reverse (saved n)))
         (registers-pushed (reverse (saved n))) a
 
     pub popPc : (n : ℕ) → k (PopPc n)

@@ -1,9 +1,8 @@
 -- Each step's words, from what the method that emits them ensures.
-use mathlib.Core.Path.{_≡_, refl, sym, ap, ap₂, _∙_}
+use mathlib.Core.Path.{_≡_, refl, sym, ap, _∙_}
 use mathlib.Core.Bool.{Bool, true, false}
-use mathlib.Core.List.{List, [], _∷_, _++_}
-use Prim.Native.Nat.{ℕ, _+_, _/_, _%_}
-use lib.Dec.{eqb}
+use mathlib.Core.List.{List, [], _∷_}
+use Prim.Native.Nat.{ℕ, _/_, _%_}
 use borrow.Author.Tests.{eq-eqb, ne-eqb}
 use Rattle.arm.specs.declared.Access.the-variants.{LdrW, StrW}
 use Rattle.arm.specs.declared.Instr.{Instr}
@@ -19,9 +18,10 @@ use Rattle.block.specs.declared.Width.the-variants.{Byte as B8, Half as B16, Wo
 use Rattle.code.specs.Items.{pick}
 use Rattle.code.specs.Tree.{Depth, top, under, Var, Code, code, nowhere}
 use Rattle.lowering.specs.declared.RegCache.{RegCache}
-use Rattle.lowering.specs.Instrs.{CPU, mov32, ldr, str, sbfx, ubfx}
+use Rattle.lowering.specs.Instrs.{CPU, mov32, sbfx, ubfx}
 use Rattle.lowering.specs.Cache.{ldReg, stReg, seated, stored}
-use Rattle.lowering.specs.Fragments.{addImm, fieldAt, oddTest, mapTest, tryRegion, call, exitImm, hold, load, store, chain, fork, ind, checkBrk, limit, stepCode, stepCache}
+use Rattle.lowering.specs.Fragments.{addImm, fieldAt, alignTest, mapTest, tryRegion, call, exitImm, hold, load, store, chain, fork, ind}
+use Rattle.lowering.specs.Fragments.{checkBrk, limit, stepCode, stepCache}
 use Rattle.lowering.specs.Compile.{targets}
 use Rattle.lowering.specs.Given.{given, placed}
 use Rattle.jumps.specs.Parts.{tabled}
@@ -40,20 +40,22 @@ load-starts : {n : Depth} (blk : Block) (rc : RegCache) (w : Width) (signed : Bo
 unfolding startsT load tryRegion call
 load-starts blk rc w signed i e x s = refl
 
-odd-starts : {n : Depth} (w : Width) (e : Var (under n) → ℕ) (x : ℕ) (s : State) → startsT (oddTest {n = n} w) e x s ≡ []
-unfolding startsT oddTest
-odd-starts B8 e x s = refl
-odd-starts B16 e x s = refl
-odd-starts B32 e x s = refl
+align-starts : {n : Depth} (u : Bool) (w : Width) (e : Var (under n) → ℕ) (x : ℕ) (s : State) → startsT (alignTest {n = n} u w) e x s ≡ []
+unfolding startsT alignTest
+align-starts u B8 e x s = refl
+align-starts u B16 e x s = refl
+align-starts false B32 e x s = refl
+align-starts true B32 e x s = refl
 
 map-starts : {n : Depth} (u : Bool) (e : Var (under n) → ℕ) (x : ℕ) (s : State) → startsT (mapTest {n = n} u) e x s ≡ []
 unfolding startsT mapTest
 map-starts false e x s = refl
 map-starts true e x s = refl
 
-store-starts : {n : Depth} (blk : Block) (rc : RegCache) (w : Width) (i : ℕ) (e : Var n → ℕ) (x : ℕ) (s : State) → startsT (store blk rc w i) e x s ≡ []
+store-starts : {n : Depth} (blk : Block) (rc : RegCache) (w : Width) (alone : Bool) (i : ℕ) (e : Var n → ℕ) (x : ℕ) (s : State)
+    → startsT (store blk rc w alone i) e x s ≡ []
 unfolding startsT store call
-store-starts blk rc w i e x s = simp (odd-starts, map-starts)
+store-starts blk rc w alone i e x s = simp (align-starts, map-starts)
 
 -- what a step leaves, by the words behind it
 module _ (blk : Block) (ws t ws₁ t₁ : List ℕ) (q r : Lowered) (a : Asm) where
@@ -107,9 +109,11 @@ module _ (blk : Block) (ws t ws₁ t₁ : List ℕ) (q r : Lowered) (a : Asm) wh
   unfolding stepCode stepCache
   load-lowers w signed i p k = tree-lowers (Meant.load w signed i) (load blk (q .rc) w signed i) refl (load-starts blk (q .rc) w signed i nowhere 0 s) refl refl p k
 
-  pub store-lowers : (w : Width) (i : ℕ) → state ws₁ t₁ a ≡ afterT (store blk (q .rc) w i) nowhere 0 s → Plain → Lowers blk (Meant.store w i ∷ []) ws t q ws₁ t₁ r
+  pub store-lowers : (w : Width) (alone : Bool) (i : ℕ) → state ws₁ t₁ a ≡ afterT (store blk (q .rc) w alone i) nowhere 0 s → Plain
+      → Lowers blk (Meant.store w alone i ∷ []) ws t q ws₁ t₁ r
   unfolding stepCode stepCache
-  store-lowers w i p k = tree-lowers (Meant.store w i) (store blk (q .rc) w i) refl (store-starts blk (q .rc) w i nowhere 0 s) refl refl p k
+  store-lowers w alone i p k =
+      tree-lowers (Meant.store w alone i) (store blk (q .rc) w alone i) refl (store-starts blk (q .rc) w alone i nowhere 0 s) refl refl p k
 
 -- ---- methods that are given a part of the block's fields
 module _ (lay : Layout) (mem : Memory) (addr : Addresses) (ws t ws₁ t₁ : List ℕ) (q r : Lowered) where

@@ -1,7 +1,7 @@
 // Each step that `emit_op` takes, to words: the words behind, the register cache and the chain sites.
 ghost use mathlib.Core.Path.{_≡_};
-ghost use mathlib.Core.List.{List, [], _∷_, _++_};
-ghost use Prim.Native.Nat.{ℕ, _%_, _<_};
+ghost use mathlib.Core.List.{[], _∷_};
+ghost use Prim.Native.Nat.{_%_, _<_};
 ghost use Rattle.code.specs.Items.{pick};
 ghost use Rattle.arm.specs.declared.Instr.{Instr};
 ghost use Rattle.lowering.specs.Given.{given};
@@ -305,13 +305,17 @@ pub fn store(
     mem: Memory,
     addr: Addresses,
     w: Width,
+    alone: bool,
     i: u32,
 ) -> Lowered
-    ensures { λ r. ⌜ (Lowers (given lay mem addr) (Meant.store w i ∷ []) (now (out .entry)) (now (tab .entry)) q (now (out .exit)) (now (tab .exit)) r) ⌝ }
+    ensures { λ r. ⌜ (Lowers (given lay mem addr) (Meant.store w alone i ∷ []) (now (out .entry)) (now (tab .entry)) q (now (out .exit)) (now (tab .exit)) r) ⌝ }
 {
     let a = q.a;
     let rc = q.rc;
-    plain(q, memops::store(out, tab, a, lay, mem, addr, rc, w, i))
+    plain(
+        q,
+        memops::store(out, tab, a, lay, mem, addr, rc, w, alone, i),
+    )
 }
 
 pub fn chain(

@@ -1,17 +1,18 @@
--- Three small blocks, their words and chain sites computed: the listings are what the commit's `compile` gives for them.
+-- Four small blocks, their words and chain sites computed: the listings are what the commit's `compile` gives for them, that of the last
+-- with the tests of 2026-04 and without.
 -- Assumes nothing.
 use mathlib.Core.Path.{_≡_, refl}
-use mathlib.Core.Bool.{Bool, true, false}
+use mathlib.Core.Bool.{true, false}
 use mathlib.Core.List.{List, [], _∷_}
 use Prim.Native.Nat.{ℕ, zero, suc}
 use Rattle.block.specs.declared.Op.the-variants.{Add, Sub, And}
+use Rattle.block.specs.declared.RmwOp.the-variants.{Mov as RmwMov}
 use Rattle.block.specs.declared.Cond.the-variants.{Ne}
 use Rattle.block.specs.declared.Base.the-variants.{Reg, Sp}
 use Rattle.block.specs.declared.Width.the-variants.{Half as B16, Word as B32}
-use Rattle.block.specs.declared.Fast.the-variants.{Nop, Alu3, Mov2, Ld, St, BrI, PopRet, BlockMove, PushRets, PopPc, LdPair}
+use Rattle.block.specs.declared.Fast.the-variants.{Nop, Alu3, Mov2, Ld, St, Rmw, PushRet, BrI, PopRet, BlockMove, PushRets, PopPc, LdPair}
 use Rattle.block.specs.declared.BOp.{BOp}
 use Rattle.block.specs.declared.Layout.{Layout}
-use Rattle.block.specs.declared.Memory.{Memory}
 use Rattle.block.specs.declared.Addresses.{Addresses}
 use Rattle.block.specs.declared.Block.{Block}
 use Rattle.block.specs.Block.{places, upFrom}
@@ -21,10 +22,11 @@ use Rattle.lowering.specs.Instrs.{mov32}
 use Rattle.lowering.specs.Cache.{position, latest, oldest, chosen, spill, slotFor, seated, ldReg, stReg, stored, flushFrom, flush}
 use Rattle.lowering.specs.Cache.{reloadFrom, reload}
 use Rattle.lowering.specs.Steps.{moveWords, pushAll, popAll, lowered, opSteps, opsSteps, blockSteps}
-use Rattle.lowering.specs.Fragments.{addImm, brkFirst, even, loads, tryRegion, extended, oddTest, mapTest, stores, call, exitImm}
+use Rattle.lowering.specs.Fragments.{addImm, brkFirst, even, loads, tryRegion, extended, alignTest, mapTest, stores, call, exitImm}
 use Rattle.lowering.specs.Fragments.{chain, ind, hold, checkBrk, fork, limit, load, store, stepCode, stepCache, stepsCode, opening}
 use Rattle.lowering.specs.Fragments.{closing}
 use Rattle.lowering.specs.Compile.{blockWords, blockLines, blockCode, sites, starts}
+use Rattle.lowering.specs.Commit.{commitCode, commitWords}
 
 abbrev nop : BOp
 nop = record { fast = Nop; len = 0; glue = false }
@@ -81,11 +83,11 @@ pub first-words : blockWords first ≡
     ∷ 0x5800028b ∷ 0x8b0a116b ∷ 0xb940016d ∷ 0x6b0c01bf ∷ 0x54000061 ∷ 0xf9400569 ∷ 0xd61f0120 ∷ 0xb9004a6c
     ∷ 0x2a1a03e0 ∷ 0x14000001 ∷ 0xa94573fb ∷ 0xa9446bf9 ∷ 0xa94363f7 ∷ 0xa9425bf5 ∷ 0xa94153f3 ∷ 0xa8c67bfd
     ∷ 0xd65f03c0 ∷ 0xd503201f ∷ 0x33334444 ∷ 0x11112222 ∷ 0xbbbbcccc ∷ 0x9999aaaa ∷ []
-unfolding blockWords blockLines blockCode sites starts addImm brkFirst even loads tryRegion extended oddTest mapTest stores call exitImm chain ind hold checkBrk fork limit load store stepCode stepCache stepsCode opening closing position latest oldest chosen spill slotFor seated ldReg stReg stored flushFrom flush reloadFrom reload mov32 lowered opSteps opsSteps blockSteps index add halves padOf baseOf words lines instrs wholeLines poolIn findIn linesWords
+unfolding blockWords blockLines blockCode sites starts addImm brkFirst even loads tryRegion extended alignTest mapTest stores call exitImm chain ind hold checkBrk fork limit load store stepCode stepCache stepsCode opening closing position latest oldest chosen spill slotFor seated ldReg stReg stored flushFrom flush reloadFrom reload mov32 lowered opSteps opsSteps blockSteps index add halves padOf baseOf words lines instrs wholeLines poolIn findIn linesWords
 first-words = refl
 
 pub first-sites : sites first ≡ []
-unfolding blockWords blockLines blockCode sites starts addImm brkFirst even loads tryRegion extended oddTest mapTest stores call exitImm chain ind hold checkBrk fork limit load store stepCode stepCache stepsCode opening closing position latest oldest chosen spill slotFor seated ldReg stReg stored flushFrom flush reloadFrom reload mov32 lowered opSteps opsSteps blockSteps index add halves padOf baseOf words lines instrs wholeLines poolIn findIn linesWords
+unfolding blockWords blockLines blockCode sites starts addImm brkFirst even loads tryRegion extended alignTest mapTest stores call exitImm chain ind hold checkBrk fork limit load store stepCode stepCache stepsCode opening closing position latest oldest chosen spill slotFor seated ldReg stReg stored flushFrom flush reloadFrom reload mov32 lowered opSteps opsSteps blockSteps index add halves padOf baseOf words lines instrs wholeLines poolIn findIn linesWords
 first-sites = refl
 
 -- A signed halfword from RAM, flash or the helper, a glued break check, a halfword stored past the code map at an offset of two words, a branch with
@@ -127,11 +129,11 @@ pub second-words : blockWords second ≡
     ∷ 0x1400000d ∷ 0xb9000667 ∷ 0xb9000a68 ∷ 0xb900166e ∷ 0x1100135a ∷ 0x14000001 ∷ 0x52804009 ∷ 0x72a04009
     ∷ 0xb9004a69 ∷ 0x10ffff8a ∷ 0xf900128a ∷ 0x2a1a03e0 ∷ 0x14000001 ∷ 0xa94573fb ∷ 0xa9446bf9 ∷ 0xa94363f7
     ∷ 0xa9425bf5 ∷ 0xa94153f3 ∷ 0xa8c67bfd ∷ 0xd65f03c0 ∷ 0x33334444 ∷ 0x11112222 ∷ 0x77778888 ∷ 0x55556666 ∷ []
-unfolding blockWords blockLines blockCode sites starts addImm brkFirst even loads tryRegion extended oddTest mapTest stores call exitImm chain ind hold checkBrk fork limit load store stepCode stepCache stepsCode opening closing position latest oldest chosen spill slotFor seated ldReg stReg stored flushFrom flush reloadFrom reload mov32 lowered opSteps opsSteps blockSteps index add halves padOf baseOf words lines instrs wholeLines poolIn findIn linesWords
+unfolding blockWords blockLines blockCode sites starts addImm brkFirst even loads tryRegion extended alignTest mapTest stores call exitImm chain ind hold checkBrk fork limit load store stepCode stepCache stepsCode opening closing position latest oldest chosen spill slotFor seated ldReg stReg stored flushFrom flush reloadFrom reload mov32 lowered opSteps opsSteps blockSteps index add halves padOf baseOf words lines instrs wholeLines poolIn findIn linesWords
 second-words = refl
 
 pub second-sites : sites second ≡ record { at = 121; target = 0x0200020e } ∷ record { at = 133; target = 0x02000200 } ∷ []
-unfolding blockWords blockLines blockCode sites starts addImm brkFirst even loads tryRegion extended oddTest mapTest stores call exitImm chain ind hold checkBrk fork limit load store stepCode stepCache stepsCode opening closing position latest oldest chosen spill slotFor seated ldReg stReg stored flushFrom flush reloadFrom reload mov32 lowered opSteps opsSteps blockSteps index add halves padOf baseOf words lines instrs wholeLines poolIn findIn linesWords
+unfolding blockWords blockLines blockCode sites starts addImm brkFirst even loads tryRegion extended alignTest mapTest stores call exitImm chain ind hold checkBrk fork limit load store stepCode stepCache stepsCode opening closing position latest oldest chosen spill slotFor seated ldReg stReg stored flushFrom flush reloadFrom reload mov32 lowered opSteps opsSteps blockSteps index add halves padOf baseOf words lines instrs wholeLines poolIn findIn linesWords
 second-sites = refl
 
 -- Groups: two registers stored below a base that is one of them and is written back; rets and two registers pushed; pair 9 loaded from sp,
@@ -193,9 +195,97 @@ pub third-words : blockWords third ≡
     ∷ 0x580002cb ∷ 0x8b0a116b ∷ 0xb940016d ∷ 0x6b0c01bf ∷ 0x54000061 ∷ 0xf9400569 ∷ 0xd61f0120 ∷ 0xb9004a6c
     ∷ 0x2a1a03e0 ∷ 0x14000001 ∷ 0xa94573fb ∷ 0xa9446bf9 ∷ 0xa94363f7 ∷ 0xa9425bf5 ∷ 0xa94153f3 ∷ 0xa8c67bfd
     ∷ 0xd65f03c0 ∷ 0xd503201f ∷ 0x77778888 ∷ 0x55556666 ∷ 0x33334444 ∷ 0x11112222 ∷ 0xbbbbcccc ∷ 0x9999aaaa ∷ []
-unfolding blockWords blockLines blockCode sites starts addImm brkFirst even loads tryRegion extended oddTest mapTest stores call exitImm chain ind hold checkBrk fork limit load store stepCode stepCache stepsCode opening closing position latest oldest chosen spill slotFor seated ldReg stReg stored flushFrom flush reloadFrom reload mov32 places upFrom moveWords pushAll popAll lowered opSteps opsSteps blockSteps index add halves padOf baseOf words lines instrs wholeLines poolIn findIn linesWords
+unfolding blockWords blockLines blockCode sites starts addImm brkFirst even loads tryRegion extended alignTest mapTest stores call exitImm chain ind hold checkBrk fork limit load store stepCode stepCache stepsCode opening closing position latest oldest chosen spill slotFor seated ldReg stReg stored flushFrom flush reloadFrom reload mov32 places upFrom moveWords pushAll popAll lowered opSteps opsSteps blockSteps index add halves padOf baseOf words lines instrs wholeLines poolIn findIn linesWords
 third-words = refl
 
 pub third-sites : sites third ≡ []
-unfolding blockWords blockLines blockCode sites starts addImm brkFirst even loads tryRegion extended oddTest mapTest stores call exitImm chain ind hold checkBrk fork limit load store stepCode stepCache stepsCode opening closing position latest oldest chosen spill slotFor seated ldReg stReg stored flushFrom flush reloadFrom reload mov32 places upFrom moveWords pushAll popAll lowered opSteps opsSteps blockSteps index add halves padOf baseOf words lines instrs wholeLines poolIn findIn linesWords
+unfolding blockWords blockLines blockCode sites starts addImm brkFirst even loads tryRegion extended alignTest mapTest stores call exitImm chain ind hold checkBrk fork limit load store stepCode stepCache stepsCode opening closing position latest oldest chosen spill slotFor seated ldReg stReg stored flushFrom flush reloadFrom reload mov32 places upFrom moveWords pushAll popAll lowered opSteps opsSteps blockSteps index add halves padOf baseOf words lines instrs wholeLines poolIn findIn linesWords
 third-sites = refl
+
+-- Words stored alone past the code map, by St, Rmw and PushRet, each tested for address bits 0 and 1; then words of groups, which are not:
+-- a register stored, and rets and a register pushed. One chain site. Behind an odd length a nop.
+abbrev fourth : Block
+fourth =
+    record {
+      layout = layout;
+      memory = record { «ram_base» = 0x20000000; «ram_len» = 64; «xip_base» = 0x02000000; «xip_len» = 16; map = true };
+      addresses = addresses;
+      pc0 = 0x02000400;
+      ops =
+          padded 32
+          (record { fast = St 1 (Reg 2) 8 B32; len = 2; glue = false }
+          ∷ record { fast = Rmw 2 B32 RmwMov 0 7; len = 2; glue = false }
+          ∷ record { fast = PushRet; len = 2; glue = false }
+          ∷ record { fast = BlockMove 2 0x0002 true false false; len = 2; glue = false }
+          ∷ record { fast = PushRets 3; len = 2; glue = false }
+          ∷ []);
+      n = 5;
+    }
+
+pub fourth-words : blockWords fourth ≡
+    0xa9ba7bfd ∷ 0xa90153f3 ∷ 0xa9025bf5 ∷ 0xa90363f7 ∷ 0xa9046bf9 ∷ 0xa90573fb ∷ 0xaa0003f3 ∷ 0xaa0103f4
+    ∷ 0xaa0203f5 ∷ 0xaa0303f6 ∷ 0x2a0403fb ∷ 0xaa0503f9 ∷ 0x5280001a ∷ 0x11001749 ∷ 0x6b1b013f ∷ 0x540000c9
+    ∷ 0x52808009 ∷ 0x72a04009 ∷ 0xb9004a69 ∷ 0x11000340 ∷ 0x140000c0 ∷ 0xb9400a65 ∷ 0x2a0503e0 ∷ 0x11002000
+    ∷ 0xb9400666 ∷ 0x2a0603e1 ∷ 0x37000180 ∷ 0x37080160 ∷ 0x52a40002 ∷ 0x4b020003 ∷ 0x52800782 ∷ 0x6b02007f
+    ∷ 0x540000c8 ∷ 0x53027c62 ∷ 0x38624b22 ∷ 0x35000062 ∷ 0xb8234aa1 ∷ 0x1400000a ∷ 0x2a0103e2 ∷ 0x2a0003e1
+    ∷ 0xaa1403e0 ∷ 0x11000343 ∷ 0x52800084 ∷ 0x58001629 ∷ 0xd63f0120 ∷ 0xb9400a65 ∷ 0xb9400666 ∷ 0xb9401a89
+    ∷ 0x340000c9 ∷ 0x52808049 ∷ 0x72a04009 ∷ 0xb9004a69 ∷ 0x11000740 ∷ 0x1400009f ∷ 0x2a0503e0 ∷ 0x2a0003f7
+    ∷ 0x528000e1 ∷ 0x2a1703e0 ∷ 0x37000180 ∷ 0x37080160 ∷ 0x52a40002 ∷ 0x4b020003 ∷ 0x52800782 ∷ 0x6b02007f
+    ∷ 0x540000c8 ∷ 0x53027c62 ∷ 0x38624b22 ∷ 0x35000062 ∷ 0xb8234aa1 ∷ 0x1400000a ∷ 0x2a0103e2 ∷ 0x2a0003e1
+    ∷ 0xaa1403e0 ∷ 0x11000743 ∷ 0x52800084 ∷ 0x58001229 ∷ 0xd63f0120 ∷ 0xb9400a65 ∷ 0xb9400666 ∷ 0xb9401a89
+    ∷ 0x340000c9 ∷ 0x52808089 ∷ 0x72a04009 ∷ 0xb9004a69 ∷ 0x11000b40 ∷ 0x1400007f ∷ 0xb9404260 ∷ 0x51001000
+    ∷ 0xb9004260 ∷ 0xb9404661 ∷ 0x37000180 ∷ 0x37080160 ∷ 0x52a40002 ∷ 0x4b020003 ∷ 0x52800782 ∷ 0x6b02007f
+    ∷ 0x540000c8 ∷ 0x53027c62 ∷ 0x38624b22 ∷ 0x35000062 ∷ 0xb8234aa1 ∷ 0x1400000a ∷ 0x2a0103e2 ∷ 0x2a0003e1
+    ∷ 0xaa1403e0 ∷ 0x11000b43 ∷ 0x52800084 ∷ 0x58000e29 ∷ 0xd63f0120 ∷ 0xb9400a65 ∷ 0xb9400666 ∷ 0xb9401a89
+    ∷ 0x340000c9 ∷ 0x528080c9 ∷ 0x72a04009 ∷ 0xb9004a69 ∷ 0x11000f40 ∷ 0x1400005f ∷ 0x2a0503e0 ∷ 0x2a0003f7
+    ∷ 0x2a1703e0 ∷ 0x2a0603e1 ∷ 0x52a40002 ∷ 0x4b020003 ∷ 0x52800782 ∷ 0x6b02007f ∷ 0x540000c8 ∷ 0x53027c62
+    ∷ 0x38624b22 ∷ 0x35000062 ∷ 0xb8234aa1 ∷ 0x1400000a ∷ 0x2a0103e2 ∷ 0x2a0003e1 ∷ 0xaa1403e0 ∷ 0x11000f43
+    ∷ 0x52800084 ∷ 0x58000a69 ∷ 0xd63f0120 ∷ 0xb9400a65 ∷ 0xb9400666 ∷ 0xb9401a89 ∷ 0x340000c9 ∷ 0x52808109
+    ∷ 0x72a04009 ∷ 0xb9004a69 ∷ 0x11001340 ∷ 0x14000041 ∷ 0xb9404260 ∷ 0x51001000 ∷ 0xb9004260 ∷ 0xb9404661
+    ∷ 0x52a40002 ∷ 0x4b020003 ∷ 0x52800782 ∷ 0x6b02007f ∷ 0x540000c8 ∷ 0x53027c62 ∷ 0x38624b22 ∷ 0x35000062
+    ∷ 0xb8234aa1 ∷ 0x1400000a ∷ 0x2a0103e2 ∷ 0x2a0003e1 ∷ 0xaa1403e0 ∷ 0x11001343 ∷ 0x52800084 ∷ 0x580006a9
+    ∷ 0xd63f0120 ∷ 0xb9400a65 ∷ 0xb9400666 ∷ 0xb9404260 ∷ 0x51001000 ∷ 0xb9004260 ∷ 0xb9400e67 ∷ 0x2a0703e1
+    ∷ 0x52a40002 ∷ 0x4b020003 ∷ 0x52800782 ∷ 0x6b02007f ∷ 0x540000c8 ∷ 0x53027c62 ∷ 0x38624b22 ∷ 0x35000062
+    ∷ 0xb8234aa1 ∷ 0x1400000b ∷ 0x2a0103e2 ∷ 0x2a0003e1 ∷ 0xaa1403e0 ∷ 0x11001343 ∷ 0x52800084 ∷ 0x580003a9
+    ∷ 0xd63f0120 ∷ 0xb9400a65 ∷ 0xb9400666 ∷ 0xb9400e67 ∷ 0xb9401a89 ∷ 0x340000c9 ∷ 0x52808149 ∷ 0x72a04009
+    ∷ 0xb9004a69 ∷ 0x11001740 ∷ 0x1400000a ∷ 0x1100175a ∷ 0x14000001 ∷ 0x52808149 ∷ 0x72a04009 ∷ 0xb9004a69
+    ∷ 0x10ffff8a ∷ 0xf900128a ∷ 0x2a1a03e0 ∷ 0x14000001 ∷ 0xa94573fb ∷ 0xa9446bf9 ∷ 0xa94363f7 ∷ 0xa9425bf5
+    ∷ 0xa94153f3 ∷ 0xa8c67bfd ∷ 0xd65f03c0 ∷ 0xd503201f ∷ 0x77778888 ∷ 0x55556666 ∷ []
+unfolding blockWords blockLines blockCode sites starts addImm brkFirst even loads tryRegion extended alignTest mapTest stores call exitImm chain ind hold checkBrk fork limit load store stepCode stepCache stepsCode opening closing position latest oldest chosen spill slotFor seated ldReg stReg stored flushFrom flush reloadFrom reload mov32 places upFrom moveWords pushAll popAll lowered opSteps opsSteps blockSteps index add halves padOf baseOf words lines instrs wholeLines poolIn findIn linesWords
+fourth-words = refl
+
+pub fourth-sites : sites fourth ≡ record { at = 204; target = 0x0200040a } ∷ []
+unfolding blockWords blockLines blockCode sites starts addImm brkFirst even loads tryRegion extended alignTest mapTest stores call exitImm chain ind hold checkBrk fork limit load store stepCode stepCache stepsCode opening closing position latest oldest chosen spill slotFor seated ldReg stReg stored flushFrom flush reloadFrom reload mov32 places upFrom moveWords pushAll popAll lowered opSteps opsSteps blockSteps index add halves padOf baseOf words lines instrs wholeLines poolIn findIn linesWords
+fourth-sites = refl
+
+-- without the six tests: each distance over one of them is shorter, and the literal stands six words before
+pub fourth-commit : commitWords fourth ≡
+    0xa9ba7bfd ∷ 0xa90153f3 ∷ 0xa9025bf5 ∷ 0xa90363f7 ∷ 0xa9046bf9 ∷ 0xa90573fb ∷ 0xaa0003f3 ∷ 0xaa0103f4
+    ∷ 0xaa0203f5 ∷ 0xaa0303f6 ∷ 0x2a0403fb ∷ 0xaa0503f9 ∷ 0x5280001a ∷ 0x11001749 ∷ 0x6b1b013f ∷ 0x540000c9
+    ∷ 0x52808009 ∷ 0x72a04009 ∷ 0xb9004a69 ∷ 0x11000340 ∷ 0x140000ba ∷ 0xb9400a65 ∷ 0x2a0503e0 ∷ 0x11002000
+    ∷ 0xb9400666 ∷ 0x2a0603e1 ∷ 0x52a40002 ∷ 0x4b020003 ∷ 0x52800782 ∷ 0x6b02007f ∷ 0x540000c8 ∷ 0x53027c62
+    ∷ 0x38624b22 ∷ 0x35000062 ∷ 0xb8234aa1 ∷ 0x1400000a ∷ 0x2a0103e2 ∷ 0x2a0003e1 ∷ 0xaa1403e0 ∷ 0x11000343
+    ∷ 0x52800084 ∷ 0x580015a9 ∷ 0xd63f0120 ∷ 0xb9400a65 ∷ 0xb9400666 ∷ 0xb9401a89 ∷ 0x340000c9 ∷ 0x52808049
+    ∷ 0x72a04009 ∷ 0xb9004a69 ∷ 0x11000740 ∷ 0x1400009b ∷ 0x2a0503e0 ∷ 0x2a0003f7 ∷ 0x528000e1 ∷ 0x2a1703e0
+    ∷ 0x52a40002 ∷ 0x4b020003 ∷ 0x52800782 ∷ 0x6b02007f ∷ 0x540000c8 ∷ 0x53027c62 ∷ 0x38624b22 ∷ 0x35000062
+    ∷ 0xb8234aa1 ∷ 0x1400000a ∷ 0x2a0103e2 ∷ 0x2a0003e1 ∷ 0xaa1403e0 ∷ 0x11000743 ∷ 0x52800084 ∷ 0x580011e9
+    ∷ 0xd63f0120 ∷ 0xb9400a65 ∷ 0xb9400666 ∷ 0xb9401a89 ∷ 0x340000c9 ∷ 0x52808089 ∷ 0x72a04009 ∷ 0xb9004a69
+    ∷ 0x11000b40 ∷ 0x1400007d ∷ 0xb9404260 ∷ 0x51001000 ∷ 0xb9004260 ∷ 0xb9404661 ∷ 0x52a40002 ∷ 0x4b020003
+    ∷ 0x52800782 ∷ 0x6b02007f ∷ 0x540000c8 ∷ 0x53027c62 ∷ 0x38624b22 ∷ 0x35000062 ∷ 0xb8234aa1 ∷ 0x1400000a
+    ∷ 0x2a0103e2 ∷ 0x2a0003e1 ∷ 0xaa1403e0 ∷ 0x11000b43 ∷ 0x52800084 ∷ 0x58000e29 ∷ 0xd63f0120 ∷ 0xb9400a65
+    ∷ 0xb9400666 ∷ 0xb9401a89 ∷ 0x340000c9 ∷ 0x528080c9 ∷ 0x72a04009 ∷ 0xb9004a69 ∷ 0x11000f40 ∷ 0x1400005f
+    ∷ 0x2a0503e0 ∷ 0x2a0003f7 ∷ 0x2a1703e0 ∷ 0x2a0603e1 ∷ 0x52a40002 ∷ 0x4b020003 ∷ 0x52800782 ∷ 0x6b02007f
+    ∷ 0x540000c8 ∷ 0x53027c62 ∷ 0x38624b22 ∷ 0x35000062 ∷ 0xb8234aa1 ∷ 0x1400000a ∷ 0x2a0103e2 ∷ 0x2a0003e1
+    ∷ 0xaa1403e0 ∷ 0x11000f43 ∷ 0x52800084 ∷ 0x58000a69 ∷ 0xd63f0120 ∷ 0xb9400a65 ∷ 0xb9400666 ∷ 0xb9401a89
+    ∷ 0x340000c9 ∷ 0x52808109 ∷ 0x72a04009 ∷ 0xb9004a69 ∷ 0x11001340 ∷ 0x14000041 ∷ 0xb9404260 ∷ 0x51001000
+    ∷ 0xb9004260 ∷ 0xb9404661 ∷ 0x52a40002 ∷ 0x4b020003 ∷ 0x52800782 ∷ 0x6b02007f ∷ 0x540000c8 ∷ 0x53027c62
+    ∷ 0x38624b22 ∷ 0x35000062 ∷ 0xb8234aa1 ∷ 0x1400000a ∷ 0x2a0103e2 ∷ 0x2a0003e1 ∷ 0xaa1403e0 ∷ 0x11001343
+    ∷ 0x52800084 ∷ 0x580006a9 ∷ 0xd63f0120 ∷ 0xb9400a65 ∷ 0xb9400666 ∷ 0xb9404260 ∷ 0x51001000 ∷ 0xb9004260
+    ∷ 0xb9400e67 ∷ 0x2a0703e1 ∷ 0x52a40002 ∷ 0x4b020003 ∷ 0x52800782 ∷ 0x6b02007f ∷ 0x540000c8 ∷ 0x53027c62
+    ∷ 0x38624b22 ∷ 0x35000062 ∷ 0xb8234aa1 ∷ 0x1400000b ∷ 0x2a0103e2 ∷ 0x2a0003e1 ∷ 0xaa1403e0 ∷ 0x11001343
+    ∷ 0x52800084 ∷ 0x580003a9 ∷ 0xd63f0120 ∷ 0xb9400a65 ∷ 0xb9400666 ∷ 0xb9400e67 ∷ 0xb9401a89 ∷ 0x340000c9
+    ∷ 0x52808149 ∷ 0x72a04009 ∷ 0xb9004a69 ∷ 0x11001740 ∷ 0x1400000a ∷ 0x1100175a ∷ 0x14000001 ∷ 0x52808149
+    ∷ 0x72a04009 ∷ 0xb9004a69 ∷ 0x10ffff8a ∷ 0xf900128a ∷ 0x2a1a03e0 ∷ 0x14000001 ∷ 0xa94573fb ∷ 0xa9446bf9
+    ∷ 0xa94363f7 ∷ 0xa9425bf5 ∷ 0xa94153f3 ∷ 0xa8c67bfd ∷ 0xd65f03c0 ∷ 0xd503201f ∷ 0x77778888 ∷ 0x55556666 ∷ []
+unfolding commitWords commitCode addImm brkFirst even loads tryRegion extended alignTest mapTest stores call exitImm chain ind hold checkBrk fork limit load store stepCode stepCache stepsCode opening closing position latest oldest chosen spill slotFor seated ldReg stReg stored flushFrom flush reloadFrom reload mov32 places upFrom moveWords pushAll popAll lowered opSteps opsSteps blockSteps index add halves padOf baseOf words lines instrs wholeLines poolIn findIn linesWords
+fourth-commit = refl

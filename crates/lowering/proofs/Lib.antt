@@ -1,3 +1,4 @@
+pub mod Commit
 pub mod Example
 pub mod Groups
 pub mod Lookups

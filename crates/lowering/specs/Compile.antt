@@ -2,7 +2,6 @@
 use mathlib.Core.List.{List, [], _∷_, _++_}
 use Prim.Native.Nat.{ℕ, _+_, _*_}
 use lib.ListN.{length}
-use Rattle.arm.specs.declared.Instr.{Instr}
 use Rattle.block.specs.declared.Block.{Block}
 use Rattle.code.specs.Tree.{Depth, top, Code, code, lit, to, exit, block, start, _then_, words, Line, wholeLines, linesWords}
 use Rattle.lowering.specs.declared.Site.{Site}
@@ -47,7 +46,7 @@ targets (Step.mov32 t v ∷ ss) = targets ss
 targets (Step.addImm d s v ∷ ss) = targets ss
 targets (Step.ins i ∷ ss) = targets ss
 targets (Step.load w signed i ∷ ss) = targets ss
-targets (Step.store w i ∷ ss) = targets ss
+targets (Step.store w alone i ∷ ss) = targets ss
 targets (Step.checkBrk glue pc count ∷ ss) = targets ss
 targets (Step.chain pc count ∷ ss) = pc ∷ targets ss
 targets (Step.fork cond pc target count ∷ ss) = pc ∷ target ∷ targets ss

@@ -1,7 +1,7 @@
 -- A step as structured code, given the block's fields and the register cache: the methods of `Gen` in the Rust.
-use mathlib.Core.Bool.{Bool, true, false}
+use mathlib.Core.Bool.{Bool, true, false, _&&_}
 use mathlib.Core.List.{List, [], _∷_, _++_}
-use Prim.Native.Nat.{ℕ, zero, suc, _+_, _-_, _*_, _%_, _^_}
+use Prim.Native.Nat.{ℕ, _+_, _-_, _^_}
 use lib.Dec.{eqb, ltb}
 use Rattle.arm.specs.declared.Size.the-variants.{W}
 use Rattle.arm.specs.declared.Access.{Access}
@@ -13,13 +13,12 @@ use Rattle.arm.specs.declared.Instr.{Instr}
 use Rattle.block.specs.declared.Width.{Width}
 use Rattle.block.specs.declared.Width.the-variants.{Byte as B8, Half as B16, Word as B32}
 use Rattle.block.specs.declared.Layout.{Layout}
-use Rattle.block.specs.declared.Memory.{Memory}
 use Rattle.block.specs.declared.Block.{Block}
 use Rattle.block.specs.Block.{bytes}
 use Rattle.code.specs.Items.{pick, b, bCond, cb, tb}
 use Rattle.code.specs.Tree.{Depth, top, under, Var, inner, outer, Code, code, lit, to, exit, block, start, _then_}
 use Rattle.lowering.specs.declared.RegCache.{RegCache}
-use Rattle.lowering.specs.Instrs.{CPU, CTX, RAM, XIP, KEEP, KEEP2, FLAGS, DONE, LIMIT, SP, NE, HI, LS, mov, movX, movz, mov32, addI}
+use Rattle.lowering.specs.Instrs.{CPU, CTX, RAM, XIP, KEEP, KEEP2, FLAGS, DONE, LIMIT, NE, HI, LS, mov, movX, movz, mov32, addI}
 use Rattle.lowering.specs.Instrs.{subI, add, addXLsl, sub, cmp, and, ubfx, sbfx, lsrI, ldr, str, ldrX, strX, indexed, frame, blr}
 use Rattle.lowering.specs.Instrs.{br, ret}
 use Rattle.lowering.specs.Cache.{ldReg, stReg, seated, stored, flush, reload}
@@ -78,11 +77,16 @@ extended B8 true = sbfx 0 0 0 8 ∷ []
 extended B16 true = sbfx 0 0 0 16 ∷ []
 extended B32 true = []
 
--- an odd halfword goes to the write helper
-unfoldable pub oddTest : {n : Depth} → Width → Code (under n)
-oddTest B8 = code []
-oddTest B16 = to (tb nonzero 0 0) inner
-oddTest B32 = code []
+-- a word that is on no multiple of 4: address bit 0, then bit 1
+abbrev pub wordTests : {n : Depth} → Code (under n)
+wordTests = to (tb nonzero 0 0) inner then to (tb nonzero 1 0) inner
+
+-- an odd halfword goes to the write helper, and where words are tested a word that is on no multiple of 4
+unfoldable pub alignTest : {n : Depth} → (words : Bool) → Width → Code (under n)
+alignTest u B8 = code []
+alignTest u B16 = to (tb nonzero 0 0) inner
+alignTest false B32 = code []
+alignTest true B32 = wordTests
 
 -- a nonzero byte of the code map for the group of the store's first byte: the write helper
 unfoldable pub mapTest : {n : Depth} → Bool → Code (under n)
@@ -152,12 +156,12 @@ module _ (blk : Block) (rc : RegCache) where
       then call (blk .addresses .«h_read»)
       then code (extended w signed))
 
-  -- blocks from outside: done, slow
-  unfoldable pub store : {n : Depth} → Width → (i : ℕ) → Code n
-  store w i =
+  -- blocks from outside: done, slow; with a code map the words stored alone are tested (2026-04), the rest is the commit's
+  unfoldable pub store : {n : Depth} → Width → (alone : Bool) → (i : ℕ) → Code n
+  store w alone i =
       block
       (block
-      (oddTest w
+      (alignTest (alone && blk .memory .map) w
       then code (mov32 2 (blk .memory .«ram_base») ++ (sub 3 0 2 ∷ (mov32 2 (blk .memory .«ram_len» - bytes w) ++ (cmp 3 2 ∷ []))))
       then to (bCond HI) inner
       then mapTest (blk .memory .map)
@@ -176,7 +180,7 @@ module _ (blk : Block) (rc : RegCache) where
   stepCode (Step.addImm d s v) = code (addImm d s v)
   stepCode (Step.ins i) = code (i ∷ [])
   stepCode (Step.load w signed i) = load w signed i
-  stepCode (Step.store w i) = store w i
+  stepCode (Step.store w alone i) = store w alone i
   stepCode (Step.checkBrk glue pc count) = checkBrk glue pc count
   stepCode (Step.chain pc count) = chain pc count
   stepCode (Step.fork cond pc target count) = fork cond pc target count
@@ -193,7 +197,7 @@ stepCache rc (Step.mov32 t v) = rc
 stepCache rc (Step.addImm d s v) = rc
 stepCache rc (Step.ins i) = rc
 stepCache rc (Step.load w signed i) = rc
-stepCache rc (Step.store w i) = rc
+stepCache rc (Step.store w alone i) = rc
 stepCache rc (Step.checkBrk glue pc count) = rc
 stepCache rc (Step.chain pc count) = rc
 stepCache rc (Step.fork cond pc target count) = rc

@@ -3,6 +3,7 @@ pub mod Cache
 pub mod Steps
 pub mod Fragments
 pub mod Compile
+pub mod Commit
 pub mod Given
 pub mod Stamps
 pub mod Recency

@@ -3,7 +3,6 @@ use mathlib.Core.Bool.{Bool, true, false}
 use mathlib.Core.List.{List, [], _∷_, _++_, reverse}
 use Prim.Native.Nat.{ℕ, suc, _+_, _-_, _*_, _%_, _^_}
 use lib.Dec.{eqb, ltb}
-use lib.ListN.{length}
 use Rattle.arm.specs.declared.Instr.{Instr}
 use Rattle.block.specs.declared.Op.{Op}
 use Rattle.block.specs.declared.Op.the-variants.{Add, Sub, RSub, And, AndNot, Or, Xor, Mul, Shl, Shr, Sar}
@@ -50,7 +49,7 @@ pub data Step : Type 0 where
   addImm : (d s v : ℕ) → Step
   ins : Instr → Step  -- an instruction on w0 to w4 and KEEP, and the flags
   load : Width → (signed : Bool) → (i : ℕ) → Step  -- w0 = what is at guest address w0
-  store : Width → (i : ℕ) → Step  -- w1 to guest address w0
+  store : Width → (alone : Bool) → (i : ℕ) → Step  -- w1 to guest address w0: a store of its own, or a word of a group
   checkBrk : (glue : Bool) → (pc count : ℕ) → Step  -- leave for pc if the break word is set
   chain : (pc count : ℕ) → Step  -- go on at a fixed pc
   fork : (cond pc target count : ℕ) → Step  -- go on at target if the condition holds, else at pc
@@ -165,7 +164,7 @@ minus v = (2 ^ 32 - v) % 2 ^ 32
 
 -- register r is the k-th word from KEEP on
 abbrev pub moveWord : (store : Bool) → (i k r : ℕ) → List Step
-moveWord true i k r = addImm 0 KEEP (4 * k) ∷ ldReg 1 r ∷ store B32 i ∷ []
+moveWord true i k r = addImm 0 KEEP (4 * k) ∷ ldReg 1 r ∷ store B32 false i ∷ []
 moveWord false i k r = addImm 0 KEEP (4 * k) ∷ load B32 false i ∷ stReg 0 r ∷ []
 
 -- these registers, in ascending words
@@ -185,8 +184,8 @@ moveOffset true n = minus n
 moveOffset false n = 0
 
 -- w1, as a step sets it, to the stack
-abbrev pub push : (i : ℕ) → Step → List Step
-push i s = ldField sp 0 ∷ ins (subI 0 0 4) ∷ stField sp 0 ∷ s ∷ store B32 i ∷ []
+abbrev pub push : (alone : Bool) → (i : ℕ) → Step → List Step
+push alone i s = ldField sp 0 ∷ ins (subI 0 0 4) ∷ stField sp 0 ∷ s ∷ store B32 alone i ∷ []
 
 -- the top of the stack to w0 and where a step puts it
 abbrev pub pop : (i : ℕ) → Step → List Step
@@ -194,7 +193,7 @@ pop i s = ldField sp 0 ∷ load B32 false i ∷ s ∷ ldField sp 0 ∷ ins (addI
 
 unfoldable pub pushAll : (i : ℕ) → List ℕ → List Step
 pushAll i [] = []
-pushAll i (r ∷ rs) = push i (ldReg 1 r) ++ pushAll i rs
+pushAll i (r ∷ rs) = push false i (ldReg 1 r) ++ pushAll i rs
 
 unfoldable pub popAll : (i : ℕ) → List ℕ → List Step
 popAll i [] = []
@@ -226,13 +225,13 @@ lowered (BitIns d s p l) i next =
 lowered (SpAdd v) i next = ldField sp 0 ∷ addImm 0 0 v ∷ stField sp 0 ∷ []
 lowered (RFromSp d v) i next = ldField sp 0 ∷ addImm 0 0 v ∷ stReg 0 d ∷ []
 lowered (Ld d b off w signed) i next = base b ∷ addImm 0 0 off ∷ load w signed i ∷ stReg 0 d ∷ []
-lowered (St s b off w) i next = base b ∷ addImm 0 0 off ∷ ldReg 1 s ∷ store w i ∷ []
+lowered (St s b off w) i next = base b ∷ addImm 0 0 off ∷ ldReg 1 s ∷ store w true i ∷ []
 lowered (LdIdx d b x sh w signed) i next = ldReg 0 b ∷ ldReg 1 x ∷ ins (addLsl 0 0 1 (sh % 32)) ∷ load w signed i ∷ stReg 0 d ∷ []
-lowered (StIdx s b x sh w) i next = ldReg 0 b ∷ ldReg 1 x ∷ ins (addLsl 0 0 1 (sh % 32)) ∷ ldReg 1 s ∷ store w i ∷ []
+lowered (StIdx s b x sh w) i next = ldReg 0 b ∷ ldReg 1 x ∷ ins (addLsl 0 0 1 (sh % 32)) ∷ ldReg 1 s ∷ store w true i ∷ []
 lowered (LdPost d b w signed inc) i next = ldReg 0 b ∷ load w signed i ∷ stReg 0 d ∷ ldReg 0 b ∷ addImm 0 0 inc ∷ stReg 0 b ∷ []
-lowered (StPost s b w inc) i next = ldReg 0 b ∷ ldReg 1 s ∷ store w i ∷ ldReg 0 b ∷ addImm 0 0 inc ∷ stReg 0 b ∷ []
-lowered (Rmw b w op off v) i next = ldReg 0 b ∷ addImm KEEP 0 off ∷ (rmwValue op w v i ++ (ins (mov 0 KEEP) ∷ store w i ∷ []))
-lowered PushRet i next = push i (ldField rets 1)
+lowered (StPost s b w inc) i next = ldReg 0 b ∷ ldReg 1 s ∷ store w true i ∷ ldReg 0 b ∷ addImm 0 0 inc ∷ stReg 0 b ∷ []
+lowered (Rmw b w op off v) i next = ldReg 0 b ∷ addImm KEEP 0 off ∷ (rmwValue op w v i ++ (ins (mov 0 KEEP) ∷ store w true i ∷ []))
+lowered PushRet i next = push true i (ldField rets 1)
 lowered PopRets i next = pop i (stField rets 0)
 lowered (BrI a v cond target) i next = ldReg 0 a ∷ mov32 1 v ∷ ins (cmp 0 1) ∷ fork (acond cond) next target (i + 1) ∷ []
 lowered (BrR a b cond target) i next = ldReg 0 a ∷ ldReg 1 b ∷ ins (cmp 0 1) ∷ fork (acond cond) next target (i + 1) ∷ []
@@ -247,7 +246,7 @@ lowered (CallR r) i next = mov32 0 next ∷ stField rets 0 ∷ ldReg 9 r ∷ ind
 lowered PopRet i next = pop i (ins (mov KEEP 0)) ++ (ind KEEP (i + 1) true ∷ [])
 lowered (BlockMove r mask u post down) i next =
     ldReg 0 r ∷ addImm KEEP 0 (moveOffset down (span mask)) ∷ (moveWords u i 0 (members mask) ++ moveBase post down (span mask) r)
-lowered (PushRets n) i next = push i (ldField rets 1) ++ pushAll i (reverse (saved n))
+lowered (PushRets n) i next = push false i (ldField rets 1) ++ pushAll i (reverse (saved n))
 lowered (PopPc n) i next = popAll i (saved n) ++ (pop i (ins (mov KEEP 0)) ++ (ind KEEP (i + 1) true ∷ []))
 -- a pair is a group of two: `mov` of KEEP is `add_imm` of 0
 lowered (LdPair p b o) i next = base b ∷ addImm KEEP 0 o ∷ moveWords false i 0 (pairOf p)

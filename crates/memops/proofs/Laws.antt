@@ -1,5 +1,5 @@
 -- The states behind the calls of each function, joined along the tree of its definition.
-use mathlib.Core.Bool.{Bool, true, false}
+use mathlib.Core.Bool.{Bool, true, false, _&&_}
 use mathlib.Core.List.{List, [], _∷_}
 use mathlib.Core.Path.{_≡_, ap, _∙_}
 use Prim.Native.Nat.{ℕ, _-_}
@@ -13,13 +13,13 @@ use Rattle.block.specs.declared.Layout.{Layout}
 use Rattle.block.specs.declared.Memory.{Memory}
 use Rattle.block.specs.declared.Addresses.{Addresses}
 use Rattle.block.specs.Block.{bytes}
-use Rattle.code.specs.Items.{b, bCond, cb, ldr, label, literal, go, bind}
+use Rattle.code.specs.Items.{b, bCond, cb, tb, ldr, label, literal, go, bind}
 use Rattle.code.specs.Tree.{Depth, under, Var, inner, outer, Code, code, block, _then_, inside, nowhere}
 use Rattle.code.specs.Calls.{calls, nextL}
 use Rattle.lowering.specs.declared.RegCache.{RegCache}
 use Rattle.lowering.specs.Cache.{flush, reload}
 use Rattle.lowering.specs.Instrs.{CTX, RAM, XIP, FLAGS, DONE, HI, mov, movX, mov32, addI, sub, cmp, lsrI, indexed, blr}
-use Rattle.lowering.specs.Fragments.{even, loads, stores, extended, tryRegion, oddTest, mapTest, call, load, store}
+use Rattle.lowering.specs.Fragments.{even, loads, stores, extended, tryRegion, alignTest, mapTest, call, load, store}
 use Rattle.lowering.specs.Given.{given, placed}
 use Rattle.asm.specs.declared.Asm.{Asm}
 use Rattle.asm.specs.declared.Made.{Made}
@@ -98,11 +98,23 @@ unfolding afterT calls nextL call
 write-under lay mem addr rc f w i l s s₁ p = p
 
 -- ---- the tests of a store
-pub odd-arm : (w p : Width) (l : ℕ) (s s₁ : State) → w ≡ p → s₁ ≡ afterT (oddTest p) (inside l nowhere) 0 s → s₁ ≡ afterT (oddTest w) (inside l nowhere) 0 s
-odd-arm w p l s s₁ q h = rw q h
+pub align-arm : (u : Bool) (w p : Width) (l : ℕ) (s s₁ : State) → w ≡ p → s₁ ≡ afterT (alignTest u p) (inside l nowhere) 0 s
+    → s₁ ≡ afterT (alignTest u w) (inside l nowhere) 0 s
+align-arm u w p l s s₁ q h = rw q h
 
 pub no-test : (l : ℕ) (s : State) → s ≡ afterT (code []) (inside l nowhere) 0 s
 no-test l s = code-after (inside l nowhere) 0 [] s s (none s)
+
+pub no-words : (u : Bool) (l : ℕ) (s : State) → u ≡ false → s ≡ afterT (alignTest u Word) (inside l nowhere) 0 s
+unfolding alignTest
+no-words u l s q = rw q (no-test l s)
+
+pub with-words : (u : Bool) (l : ℕ) (s s₁ s₂ : State) → u ≡ true → s₁ ≡ put (go (tb Nonzero 0 0) (label l)) s
+    → s₂ ≡ put (go (tb Nonzero 1 0) (label l)) s₁ → s₂ ≡ afterT (alignTest u Word) (inside l nowhere) 0 s
+unfolding alignTest
+with-words u l s s₁ s₂ q p₁ p₂ =
+    let e : Var _ → ℕ = inside l nowhere in
+    rw q (then-after e 0 _ _ s s₁ s₂ (to-after e 0 (tb Nonzero 0 0) inner s s₁ p₁) (to-after e 0 (tb Nonzero 1 0) inner s₁ s₂ p₂))
 
 pub no-map : (m : Bool) (l : ℕ) (s : State) → m ≡ false → s ≡ afterT (mapTest m) (inside l nowhere) 0 s
 unfolding mapTest
@@ -116,26 +128,29 @@ with-map m l s s₁ s₂ s₃ q p₁ p₂ p₃ =
     rw q (then-after e 0 _ _ s s₂ s₃ (code-after e 0 _ s s₂ (more (lsrI 2 3 2 ∷ []) _ s s₁ s₂ p₁ p₂)) (to-after e 0 (cb W Nonzero 2) inner s₂ s₃ p₃))
 
 -- the same with a block around
-odd-under : (w : Width) (slow done : ℕ) (s s₁ : State) → s₁ ≡ afterT (oddTest w) (inside slow nowhere) 0 s → s₁ ≡ afterT (oddTest w) (inside slow (inside done nowhere)) 0 s
-unfolding afterT calls oddTest
-odd-under Byte slow done s s₁ p = p
-odd-under Half slow done s s₁ p = p
-odd-under Word slow done s s₁ p = p
+align-under : (u : Bool) (w : Width) (slow done : ℕ) (s s₁ : State) → s₁ ≡ afterT (alignTest u w) (inside slow nowhere) 0 s
+    → s₁ ≡ afterT (alignTest u w) (inside slow (inside done nowhere)) 0 s
+unfolding afterT calls nextL alignTest
+align-under u Byte slow done s s₁ p = p
+align-under u Half slow done s s₁ p = p
+align-under false Word slow done s s₁ p = p
+align-under true Word slow done s s₁ p = p
 
 map-under : (m : Bool) (slow done : ℕ) (s s₁ : State) → s₁ ≡ afterT (mapTest m) (inside slow nowhere) 0 s → s₁ ≡ afterT (mapTest m) (inside slow (inside done nowhere)) 0 s
 unfolding afterT calls nextL mapTest
 map-under false slow done s s₁ p = p
 map-under true slow done s s₁ p = p
 
-pub ram-store : (mem : Memory) (w : Width) (slow done k n : ℕ) (f : Access) (s s₁ s₂ s₃ s₄ s₅ s₆ s₇ s₈ s₉ : State)
+pub ram-store : (mem : Memory) (w : Width) (alone : Bool) (slow done k n : ℕ) (f : Access) (s s₁ s₂ s₃ s₄ s₅ s₆ s₇ s₈ s₉ : State)
     → k ≡ bytes w → n ≡ mem .«ram_len» - k → f ≡ stores w
-    → s₁ ≡ afterT (oddTest w) (inside slow nowhere) 0 s → s₂ ≡ emitted (mov32 2 (mem .«ram_base»)) s₁ → s₃ ≡ emitted (sub 3 0 2 ∷ []) s₂
-    → s₄ ≡ emitted (mov32 2 n) s₃ → s₅ ≡ emitted (cmp 3 2 ∷ []) s₄ → s₆ ≡ put (go (bCond HI) (label slow)) s₅
-    → s₇ ≡ afterT (mapTest (mem .map)) (inside slow nowhere) 0 s₆ → s₈ ≡ emitted (indexed f 1 RAM 3 ∷ []) s₇ → s₉ ≡ put (go b (label done)) s₈
-    → s₉ ≡ afterT (ramStore mem w) (inside slow (inside done nowhere)) 0 s
-ram-store mem w slow done k n f s s₁ s₂ s₃ s₄ s₅ s₆ s₇ s₈ s₉ ks ns fs p₁ p₂ p₃ p₄ p₅ p₆ p₇ p₈ p₉ =
+    → s₁ ≡ afterT (alignTest (alone && mem .map) w) (inside slow nowhere) 0 s → s₂ ≡ emitted (mov32 2 (mem .«ram_base»)) s₁
+    → s₃ ≡ emitted (sub 3 0 2 ∷ []) s₂ → s₄ ≡ emitted (mov32 2 n) s₃ → s₅ ≡ emitted (cmp 3 2 ∷ []) s₄
+    → s₆ ≡ put (go (bCond HI) (label slow)) s₅ → s₇ ≡ afterT (mapTest (mem .map)) (inside slow nowhere) 0 s₆
+    → s₈ ≡ emitted (indexed f 1 RAM 3 ∷ []) s₇ → s₉ ≡ put (go b (label done)) s₈
+    → s₉ ≡ afterT (ramStore mem w alone) (inside slow (inside done nowhere)) 0 s
+ram-store mem w alone slow done k n f s s₁ s₂ s₃ s₄ s₅ s₆ s₇ s₈ s₉ ks ns fs p₁ p₂ p₃ p₄ p₅ p₆ p₇ p₈ p₉ =
     let e : Var _ → ℕ = inside slow (inside done nowhere) in
-    then-after e 0 _ _ s s₁ s₉ (odd-under w slow done s s₁ p₁)
+    then-after e 0 _ _ s s₁ s₉ (align-under (alone && mem .map) w slow done s s₁ p₁)
     (then-after e 0 _ _ s₁ s₅ s₉
     (code-after e 0 _ s₁ s₅
     (more _ _ s₁ s₂ s₅ p₂ (more (sub 3 0 2 ∷ []) _ s₂ s₃ s₅ p₃ (more _ _ s₃ s₄ s₅ (same _ _ s₃ s₄ (ap (mov32 2) (ns ∙ ap (λ j. mem .«ram_len» - j) ks)) p₄) p₅))))
@@ -162,11 +177,12 @@ module _ (lay : Layout) (mem : Memory) (addr : Addresses) (rc : RegCache) (ws t 
       (block-made e₂ ws t (slow .a) xip _ s₁ s₂ q₃ (region-under RAM _ _ w signed (xip .l .0) (slow .l .0) (done .l .0) (state ws t (xip .a)) s₁ p₁) p₂) p₃) p₄)
       (read-under lay mem addr rc (addr .«h_read») w signed i (done .l .0) s₄ s₅ p₅)) p₆
 
-  pub store-whole : (w : Width) (i : ℕ) (s₁ s₂ s₃ s₄ : State) → s₁ ≡ afterT (ramStore mem w) (inside (slow .l .0) (inside (done .l .0) nowhere)) 0 (state ws t (slow .a))
+  pub store-whole : (w : Width) (alone : Bool) (i : ℕ) (s₁ s₂ s₃ s₄ : State)
+      → s₁ ≡ afterT (ramStore mem w alone) (inside (slow .l .0) (inside (done .l .0) nowhere)) 0 (state ws t (slow .a))
       → s₂ ≡ put (bind (slow .l .0)) s₁ → s₃ ≡ afterT (byWrite (placed lay) rc (addr .«h_write») w i) nowhere 0 s₂ → s₄ ≡ put (bind (done .l .0)) s₃
-      → s₄ ≡ afterT (store (given lay mem addr) rc w i) nowhere 0 (state ws t a)
+      → s₄ ≡ afterT (store (given lay mem addr) rc w alone i) nowhere 0 (state ws t a)
   unfolding store
-  store-whole w i s₁ s₂ s₃ s₄ p₁ p₂ p₃ p₄ =
+  store-whole w alone i s₁ s₂ s₃ s₄ p₁ p₂ p₃ p₄ =
       let e : Var _ → ℕ = inside (done .l .0) nowhere in
       block-made nowhere ws t a done _ s₃ s₄ q₁
       (then-after e 0 _ _ (state ws t (done .a)) s₂ s₃ (block-made e ws t (done .a) slow _ s₁ s₂ q₂ p₁ p₂)

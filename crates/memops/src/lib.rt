@@ -3,7 +3,7 @@ ghost use mathlib.Core.Path.{_≡_};
 ghost use mathlib.Core.List.{[], _∷_};
 ghost use Rattle.code.specs.Tree.{inner, outer, inside, nowhere};
 ghost use Rattle.lowering.specs.Instrs.{sub as subOf, indexed as indexedOf};
-ghost use Rattle.lowering.specs.Fragments.{tryRegion, oddTest, mapTest, call, load as loadOf, store as storeOf};
+ghost use Rattle.lowering.specs.Fragments.{tryRegion, alignTest, mapTest, call, load as loadOf, store as storeOf};
 ghost use Rattle.lowering.specs.Given.{given, placed};
 ghost use Rattle.asm.specs.State.{state};
 ghost use Rattle.emission.specs.Total.{emitted, afterT};
@@ -177,14 +177,32 @@ pub fn load(
     a
 }
 
-// An odd halfword goes to the write helper.
-fn odd_test(out: &mut [u32], tab: &mut [u64; 6152], a: Asm, w: Width, slow: Label) -> Asm
-    ensures { λ r. ⌜ state (now (out .exit)) (now (tab .exit)) r ≡ afterT (oddTest w) (inside (slow .0) nowhere) 0 (state (now (out .entry)) (now (tab .entry)) a) ⌝ }
+// Where words are tested, one that is on no multiple of 4 goes to the write helper: address bit 0, then bit 1.
+fn word_tests(out: &mut [u32], tab: &mut [u64; 6152], a: Asm, words: bool, slow: Label) -> Asm
+    ensures { λ r. ⌜ state (now (out .exit)) (now (tab .exit)) r ≡ afterT (alignTest words Width.Word) (inside (slow .0) nowhere) 0 (state (now (out .entry)) (now (tab .entry)) a) ⌝ }
+{
+    if words {
+        let a = asm::tbnz(out, tab, a, 0, 0, slow);
+        return asm::tbnz(out, tab, a, 0, 1, slow);
+    }
+    a
+}
+
+// An odd halfword goes to the write helper, and a word as `word_tests` says.
+fn align_test(
+    out: &mut [u32],
+    tab: &mut [u64; 6152],
+    a: Asm,
+    words: bool,
+    w: Width,
+    slow: Label,
+) -> Asm
+    ensures { λ r. ⌜ state (now (out .exit)) (now (tab .exit)) r ≡ afterT (alignTest words w) (inside (slow .0) nowhere) 0 (state (now (out .entry)) (now (tab .entry)) a) ⌝ }
 {
     match w {
         Width::Byte => a,
         Width::Half => asm::tbnz(out, tab, a, 0, 0, slow),
-        Width::Word => a,
+        Width::Word => word_tests(out, tab, a, words, slow),
     }
 }
 
@@ -205,19 +223,20 @@ fn map_test(out: &mut [u32], tab: &mut [u64; 6152], a: Asm, map: bool, slow: Lab
     a
 }
 
-// Inside RAM, an even halfword, and no code there: the store itself.
+// Inside RAM, past its tests, and no code there: the store itself. With a code map the words stored alone are tested (2026-04).
 fn store_ram(
     out: &mut [u32],
     tab: &mut [u64; 6152],
     a: Asm,
     mem: Memory,
     w: Width,
+    alone: bool,
     slow: Label,
     done: Label,
 ) -> Asm
-    ensures { λ r. ⌜ state (now (out .exit)) (now (tab .exit)) r ≡ afterT (ramStore mem w) (inside (slow .0) (inside (done .0) nowhere)) 0 (state (now (out .entry)) (now (tab .entry)) a) ⌝ }
+    ensures { λ r. ⌜ state (now (out .exit)) (now (tab .exit)) r ≡ afterT (ramStore mem w alone) (inside (slow .0) (inside (done .0) nowhere)) 0 (state (now (out .entry)) (now (tab .entry)) a) ⌝ }
 {
-    let a = odd_test(out, tab, a, w, slow);
+    let a = align_test(out, tab, a, alone & mem.map, w, slow);
     let a = moves::mov32(out, tab, a, 2, mem.ram_base);
     let a = sub(out, tab, a, 3, 0, 2);
     let a = moves::mov32(out, tab, a, 2, moves::room(mem.ram_len, moves::bytes(w)));
@@ -259,13 +278,14 @@ pub fn store(
     addr: Addresses,
     rc: RegCache,
     w: Width,
+    alone: bool,
     i: u32,
 ) -> Asm
-    ensures { λ r. ⌜ state (now (out .exit)) (now (tab .exit)) r ≡ afterT (storeOf (given lay mem addr) rc w i) nowhere 0 (state (now (out .entry)) (now (tab .entry)) a) ⌝ }
+    ensures { λ r. ⌜ state (now (out .exit)) (now (tab .exit)) r ≡ afterT (storeOf (given lay mem addr) rc w alone i) nowhere 0 (state (now (out .entry)) (now (tab .entry)) a) ⌝ }
 {
     let done = asm::new_label(a);
     let slow = asm::new_label(done.a);
-    let a = store_ram(out, tab, slow.a, mem, w, slow.l, done.l);
+    let a = store_ram(out, tab, slow.a, mem, w, alone, slow.l, done.l);
     asm::bind(out, tab, a, slow.l);
     let a = write(out, tab, a, lay, rc, addr.h_write, w, i);
     asm::bind(out, tab, a, done.l);

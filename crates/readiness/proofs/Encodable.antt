@@ -2,17 +2,15 @@
 --     Encodable           of structured code
 --     block-encodable     of every checked block
 -- Assumes nothing.
-use mathlib.Core.Path.{_≡_, refl, ap, _∙_}
-use mathlib.Core.Bool.{Bool, true, false, not, _&&_, _||_}
+use mathlib.Core.Path.{_≡_, refl}
+use mathlib.Core.Bool.{Bool, true, false, not, _&&_}
 use mathlib.Core.List.{List, [], _∷_, _++_, reverse}
-use Prim.Native.Nat.{ℕ, zero, suc, _+_, _-_, _*_, _/_, _%_, _^_, _<_, _≤_}
+use Prim.Native.Nat.{ℕ, zero, suc, _+_, _-_, _/_, _%_, _^_, _<_}
 use native.Mathlib.Nat.{mod-lt, mod-eq-of-lt}
 use native.Mathlib.Omega.{arith}
 use borrow.Author.Tests.{le-leb, lt-leb, eq-eqb}
-use lib.Dec.{eqb, ltb, leb}
+use lib.Dec.{eqb, ltb}
 use lib.ListN.{getD}
-use Rattle.arm.specs.declared.Size.the-variants.{W}
-use Rattle.arm.specs.declared.Access.{Access}
 use Rattle.arm.specs.declared.Instr.{Instr}
 use Rattle.block.specs.declared.Op.{Op}
 use Rattle.block.specs.declared.Op.the-variants.{Add, Sub, RSub, And, AndNot, Or, Xor, Mul, Shl, Shr, Sar}
@@ -41,22 +39,21 @@ use Rattle.block.specs.declared.Fast.the-variants.{PushRet, PopRets, BrI, BrR, 
 use Rattle.block.specs.declared.Fast.the-variants.{BlockMove, PushRets, PopPc, LdPair, StPair}
 use Rattle.block.specs.declared.BOp.{BOp}
 use Rattle.block.specs.declared.Layout.{Layout}
-use Rattle.block.specs.declared.Memory.{Memory}
 use Rattle.block.specs.declared.Block.{Block}
 use Rattle.block.specs.Block.{opsOf, mayJump, usesBus, bytes, members, span, saved, pairOf}
 use Rattle.block.specs.Checked.{AddressesFit}
 use Rattle.code.specs.Items.{pick, Hole, b, bCond, cb, tb, adr, ldr}
-use Rattle.code.specs.Tree.{Depth, top, under, Var, inner, outer, Code, code, lit, to, exit, block, start, _then_}
+use Rattle.code.specs.Tree.{Depth, top, under, Var, Code, code, lit, to, exit, block, start, _then_}
 use Rattle.machine.specs.Encoders.{encoders, hasEncoder}
 use Rattle.lowering.specs.declared.RegCache.{RegCache}
-use Rattle.lowering.specs.Instrs.{mov, movX, mov32, addI, subI, add, sub, cmp, csel, str, indexed, sbfx, ubfx, lslI, lsrI, asrI, addLsl}
+use Rattle.lowering.specs.Instrs.{mov, mov32, csel, str, indexed, sbfx, ubfx, lslI, lsrI, asrI}
 use Rattle.lowering.specs.Instrs.{ldr as ldrIns}
-use Rattle.lowering.specs.Cache.{POOL, host, FREE, emptyCache, offReg, oldest, isHeld, chosen, spill, slotFor, seated, stored, flushFrom}
+use Rattle.lowering.specs.Cache.{POOL, host, FREE, emptyCache, offReg, oldest, isHeld, chosen, spill, flushFrom}
 use Rattle.lowering.specs.Cache.{flush, reloadFrom, reload}
 use Rattle.lowering.specs.Cache.{ldReg as ldRegCode, stReg as stRegCode}
 use Rattle.lowering.specs.Steps.{Step, lowered, opSteps, opsSteps, blockSteps, behind, alu, acond, ext, choice, rhs, base, un, div, low}
 use Rattle.lowering.specs.Steps.{rmwValue, moveWords, moveBase, pushAll, popAll}
-use Rattle.lowering.specs.Fragments.{minus, addImm, brkFirst, even, loads, tryRegion, extended, oddTest, mapTest, stores, call, exitImm}
+use Rattle.lowering.specs.Fragments.{minus, addImm, brkFirst, even, loads, tryRegion, extended, alignTest, mapTest, stores, call, exitImm}
 use Rattle.lowering.specs.Fragments.{chain, ind, hold, checkBrk, fork, limit, load, store, stepCode, stepCache, stepsCode, opening}
 use Rattle.lowering.specs.Fragments.{closing}
 use Rattle.lowering.specs.Compile.{blockCode}
@@ -226,11 +223,11 @@ module _ (blk : Block) (rc : RegCache) (addresses : AddressesFit (blk .addresses
       extended-known B16 true = (refl, tt)
       extended-known B32 true = tt
 
-  store-known : (n : Depth) (w : Width) (i : ℕ) → Encodable {n = n} (store blk rc w i)
-  unfolding store oddTest mapTest stores Encodable hasEncoder encoders
-  store-known n w i = (
+  store-known : (n : Depth) (w : Width) (alone : Bool) (i : ℕ) → Encodable {n = n} (store blk rc w alone i)
+  unfolding store alignTest mapTest stores Encodable hasEncoder encoders
+  store-known n w alone i = (
     (
-      odd-known (under n) w,
+      align-known (under n) (alone && blk .memory .map) w,
       (
         known-append (mov32 2 (blk .memory .«ram_base»)) _ (mov32-known 2 (blk .memory .«ram_base»)) (refl, known-append (mov32 2 (blk .memory .«ram_len» - bytes w)) _ (mov32-known 2 _) (refl, tt)),
         (omega arith, (map-known (under n) (blk .memory .map), ((access-known w, tt), tt))),
@@ -239,10 +236,11 @@ module _ (blk : Block) (rc : RegCache) (addresses : AddressesFit (blk .addresses
     ((refl, (refl, (refl, (refl, mov32-known 4 (bytes w))))), call-known (under n) _ (addresses .h-write)),
   )
     where
-      odd-known : (m : Depth) (w : Width) → Encodable (oddTest {n = m} w)
-      odd-known m B8 = tt
-      odd-known m B16 = tt
-      odd-known m B32 = tt
+      align-known : (m : Depth) (u : Bool) (w : Width) → Encodable (alignTest {n = m} u w)
+      align-known m u B8 = tt
+      align-known m u B16 = tt
+      align-known m false B32 = tt
+      align-known m true B32 = (tt, tt)
 
       map-known : (m : Depth) (u : Bool) → Encodable (mapTest {n = m} u)
       map-known m false = tt
@@ -263,7 +261,7 @@ StepKnown (Step.mov32 t v) = Unit {0}
 StepKnown (Step.addImm d s v) = Unit {0}
 StepKnown (Step.ins i) = hasEncoder i ≡ true
 StepKnown (Step.load w signed i) = Unit {0}
-StepKnown (Step.store w i) = Unit {0}
+StepKnown (Step.store w alone i) = Unit {0}
 StepKnown (Step.checkBrk glue pc count) = Unit {0}
 StepKnown (Step.chain pc count) = Unit {0}
 StepKnown (Step.fork k pc target count) = k < 15
@@ -288,7 +286,7 @@ step-known blk rc z (Step.mov32 t v) h = mov32-known t v
 step-known blk rc z (Step.addImm d s v) h = addImm-known d s v
 step-known blk rc z (Step.ins i) h = (h, tt)
 step-known blk rc z (Step.load w signed i) h = load-known blk rc z top w signed i
-step-known blk rc z (Step.store w i) h = store-known blk rc z top w i
+step-known blk rc z (Step.store w alone i) h = store-known blk rc z top w alone i
 step-known blk rc z (Step.checkBrk glue pc count) h = checkBrk-known blk rc z top glue pc count
 step-known blk rc z (Step.chain pc count) h = chain-known blk rc z top pc count
 step-known blk rc z (Step.fork k pc target count) h = fork-known blk rc z top k pc target count h

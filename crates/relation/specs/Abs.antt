@@ -5,7 +5,6 @@ use mathlib.Core.Option.{Option, none, some}
 use mathlib.Core.List.{List, [], _∷_}
 use Prim.Native.Nat.{ℕ, _+_, _%_, _^_}
 use lib.Dec.{eqb, ltb}
-use Rattle.arm.specs.declared.Instr.{Instr}
 use Rattle.block.specs.declared.Block.{Block}
 use Rattle.machine.specs.Bits.{Nzcv, ConditionHolds}
 use Rattle.card.specs.Word.{plus}
@@ -116,8 +115,9 @@ mstep b flash limit (Step.addImm d s v) a = known (a .t s) (λ x. go (withTemp d
 mstep b flash limit (Step.ins i) a = mins (dataOf i) a
 mstep b flash limit (Step.load w signed i) a =
     known (a .t 0) (λ p. ifGot (load (b .memory) flash i w signed p (a .c)) (λ v c. go (record { c = c; t = upd (kill (a .t)) 0 (some v); f = none })))
-mstep b flash limit (Step.store w i) a =
-    known (a .t 0) (λ p. known (a .t 1) (λ v. ifGot (store (b .memory) i w p v (a .c)) (λ u c. go (record { c = c; t = kill (a .t); f = none }))))
+mstep b flash limit (Step.store w alone i) a =
+    known (a .t 0) (λ p. known (a .t 1) (λ v. ifGot (store (b .memory) i w alone p v (a .c))
+    (λ u c. go (record { c = c; t = kill (a .t); f = none }))))
 mstep b flash limit (Step.checkBrk glue pc count) a =
     cond (eqb (a .c .brk) 0) (go (withTemp 9 none a)) (off exits (arrive pc count (setHold (cond glue 1 (a .c .hold)) (a .c))))
 mstep b flash limit (Step.chain pc count) a = off (chains 0) (arrive pc count (a .c))

@@ -1,11 +1,10 @@
 -- What a step's numbers are, so that its code does what the machine between does.
 use mathlib.Core.Path.{_≡_}
 use mathlib.Core.Logic.{_≢_}
-use mathlib.Core.Bool.{Bool, true, false, _&&_, _||_}
+use mathlib.Core.Bool.{Bool, false, _&&_, _||_}
 use mathlib.Core.List.{List, [], _∷_}
 use Prim.Native.Nat.{ℕ, _^_, _<_}
 use lib.Dec.{T, eqb}
-use Rattle.arm.specs.declared.Size.the-variants.{W, X}
 use Rattle.arm.specs.declared.Flags.{Flags}
 use Rattle.arm.specs.declared.Flags.the-variants.{Keeps, Sets}
 use Rattle.arm.specs.declared.Instr.{Instr}
@@ -61,7 +60,7 @@ StepFits (Step.mov32 t v) = (cls t ≡ 0) × (v < 2 ^ 32)
 StepFits (Step.addImm d s v) = (cls d ≡ 0) × (cls s ≡ 0) × (s ≢ 9) × (v < 2 ^ 32)
 StepFits (Step.ins i) = T (onTemps i)
 StepFits (Step.load w signed i) = i < 32
-StepFits (Step.store w i) = i < 32
+StepFits (Step.store w alone i) = i < 32
 StepFits (Step.checkBrk glue pc count) = (pc < 2 ^ 32) × (count < 4096)
 StepFits (Step.chain pc count) = (pc < 2 ^ 32) × (count < 4096)
 StepFits (Step.fork k pc target count) = (pc < 2 ^ 32) × (target < 2 ^ 32) × (count < 4096)

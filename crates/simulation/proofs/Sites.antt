@@ -13,7 +13,7 @@ use lib.ListN.{length, getD}
 use Rattle.block.specs.declared.Block.{Block}
 use Rattle.block.specs.declared.Width.{Width}
 use Rattle.block.specs.declared.Width.the-variants.{Byte as B8, Half as B16, Word as B32}
-use Rattle.code.specs.Tree.{Depth, top, under, Var}
+use Rattle.code.specs.Tree.{Depth, top, under}
 use Rattle.machine.specs.Bits.{Nzcv, ConditionHolds}
 use Rattle.card.specs.Card.{Card, arrive, setHold}
 use Rattle.card.specs.Memory.{Access, got, unmet}
@@ -21,7 +21,7 @@ use Rattle.card.specs.Memory.{load as loadCard, store as storeCard}
 use Rattle.card.specs.Step.{Way, exits, chains, looksUp}
 use Rattle.lowering.specs.declared.RegCache.{RegCache}
 use Rattle.lowering.specs.Steps.{Step}
-use Rattle.lowering.specs.Fragments.{tryRegion, oddTest, mapTest, call, exitImm, chain, ind, checkBrk, fork, limit, load, store, stepCode}
+use Rattle.lowering.specs.Fragments.{tryRegion, alignTest, mapTest, call, exitImm, chain, ind, checkBrk, fork, limit, load, store, stepCode}
 use Rattle.lowering.specs.Compile.{starts, targets}
 use Rattle.relation.specs.Data.{Data, dataOf}
 use Rattle.relation.specs.Abs.{Abs, Then, go, off, void, upd, kill, vals, orStays, withTemp, known, ifGot, mins, mdata, ifAll, allSeen}
@@ -49,11 +49,12 @@ Sited (off w c) ss ts = Has w ss × Aimed w c ts
 Sited void ss ts = Unit {0}
 
 -- ---- code without sites
-none-odd : (n : Depth) (w : Width) (p : ℕ) → starts (oddTest {n = n} w) p ≡ []
-unfolding oddTest starts
-none-odd n B8 p = refl
-none-odd n B16 p = refl
-none-odd n B32 p = refl
+none-align : (n : Depth) (words : Bool) (w : Width) (p : ℕ) → starts (alignTest {n = n} words w) p ≡ []
+unfolding alignTest starts
+none-align n u B8 p = refl
+none-align n u B16 p = refl
+none-align n false B32 p = refl
+none-align n true B32 p = refl
 
 none-map : (n : Depth) (u : Bool) (p : ℕ) → starts (mapTest {n = n} u) p ≡ []
 unfolding mapTest starts
@@ -75,9 +76,9 @@ module _ (b : Block) (rc : RegCache) (p : ℕ) where
   unfolding stepCode load call starts tryRegion
   none-load w signed i = (refl, refl)
 
-  none-store : (w : Width) (i : ℕ) → None (Step.store w i)
+  none-store : (w : Width) (alone : Bool) (i : ℕ) → None (Step.store w alone i)
   unfolding stepCode store call starts
-  none-store w i = (rw (none-odd (under top) w, none-map (under top) (b .memory .map)) refl, refl)
+  none-store w alone i = (rw (none-align (under top) (alone && b .memory .map) w, none-map (under top) (b .memory .map)) refl, refl)
 
   none-check : (glue : Bool) (pc count : ℕ) → None (Step.checkBrk glue pc count)
   unfolding stepCode checkBrk exitImm starts
@@ -97,7 +98,7 @@ module _ (b : Block) (rc : RegCache) (p : ℕ) where
   Straight (Step.addImm d s v) = Unit {0}
   Straight (Step.ins i) = Unit {0}
   Straight (Step.load w signed i) = ⊥
-  Straight (Step.store w i) = ⊥
+  Straight (Step.store w alone i) = ⊥
   Straight (Step.checkBrk glue pc count) = ⊥
   Straight (Step.chain pc count) = ⊥
   Straight (Step.fork k pc target count) = ⊥
@@ -114,7 +115,7 @@ module _ (b : Block) (rc : RegCache) (p : ℕ) where
   plain-none (Step.addImm d s v) h = (refl, refl)
   plain-none (Step.ins i) h = (refl, refl)
   plain-none (Step.load w signed i) h = absurd h
-  plain-none (Step.store w i) h = absurd h
+  plain-none (Step.store w alone i) h = absurd h
   plain-none (Step.checkBrk glue pc count) h = absurd h
   plain-none (Step.chain pc count) h = absurd h
   plain-none (Step.fork k pc target count) h = absurd h
@@ -176,18 +177,18 @@ module _ (b : Block) (rc : RegCache) (p : ℕ) where
       by : (o : Option ℕ) → SitedStep (known o (λ q. ifGot (loads q) (λ v c. go (after v c)))) (Step.load w signed i)
       by none = tt
       by (some q) = of-got (loads q) after _ _ (none-load w signed i)
-  sited a flash lim (Step.store w i) = by (a .t 0) (a .t 1)
+  sited a flash lim (Step.store w alone i) = by (a .t 0) (a .t 1)
     where
       stores : (q v : ℕ) → Access
-      stores q v = storeCard (b .memory) i w q v (a .c)
+      stores q v = storeCard (b .memory) i w alone q v (a .c)
 
       after : ℕ → Card → Abs
       after x c = record { c = c; t = kill (a .t); f = none }
 
-      by : (o u : Option ℕ) → SitedStep (known o (λ q. known u (λ v. ifGot (stores q v) (λ x c. go (after x c))))) (Step.store w i)
+      by : (o u : Option ℕ) → SitedStep (known o (λ q. known u (λ v. ifGot (stores q v) (λ x c. go (after x c))))) (Step.store w alone i)
       by none u = tt
       by (some q) none = tt
-      by (some q) (some v) = of-got (stores q v) after _ _ (none-store w i)
+      by (some q) (some v) = of-got (stores q v) after _ _ (none-store w alone i)
   sited a flash lim (Step.checkBrk glue pc count) = by (eqb (a .c .brk) 0)
     where
       held : Card

@@ -27,7 +27,7 @@ module _ (blk : Block) where
   given-step rc (Step.addImm d s v) = refl
   given-step rc (Step.ins i) = refl
   given-step rc (Step.load w signed i) = refl
-  given-step rc (Step.store w i) = refl
+  given-step rc (Step.store w alone i) = refl
   given-step rc (Step.checkBrk glue pc count) = refl
   given-step rc (Step.chain pc count) = refl
   given-step rc (Step.fork cond pc target count) = refl

@@ -9,14 +9,14 @@ same-length : tie.Need-same-length
 same-length c =
     let c₂ = c .before .before in
     let c₁ = c₂ .before .before .before .before .before in
-    c₂ .push-regs .kept .0 ∙ c₁ .push-ret .kept .0
+    c₂ .push-regs .kept .0 ∙ c₁ .rets-to-stack .kept .0
 
 returns : tie.Need-returns
 unfolding lowered
 returns c =
     let c₂ = c .before .before in
     let c₁ = c₂ .before .before .before .before .before in
-    λ next. lower2 (c₁ .push-ret .ensures next) (c₂ .push-regs .ensures)
+    λ next. lower2 (c₁ .rets-to-stack .ensures) (c₂ .push-regs .ensures)
 
 pub push-rets-spec : {M : Type 1} → statement M
 push-rets-spec = tie.close (tie.spec (λ c κs. search needs) (λ c κs. search needs) same-length returns)

@@ -19,7 +19,8 @@ returns c =
     let c₂ = c₃ .before .before .before .before .before in
     let c₁ = c₂ .before .before .before .before .before in
     let c₀ = c₁ .before .before .before in
-    store-whole _ _ _ _ _ _ _ _ _ (c₀ .before .new-label .ensures) (c₀ .new-label2 .ensures) _ _ _ _ _ _ (c₁ .store-ram .ensures) (c₂ .bind .ensures) (c₃ .write .ensures) (c₄ .bind2 .ensures)
+    store-whole _ _ _ _ _ _ _ _ _ (c₀ .before .new-label .ensures) (c₀ .new-label2 .ensures) _ _ _ _ _ _ _
+    (c₁ .store-ram .ensures) (c₂ .bind .ensures) (c₃ .write .ensures) (c₄ .bind2 .ensures)
 
 pub store-spec : {M : Type 1} → statement M
 store-spec = tie.close (tie.spec (λ c κs. search needs) (λ c κs. search needs) (λ c κs. search needs) (λ c κs. search needs) (λ c κs. search needs) (λ c κs. search needs) same-length returns)

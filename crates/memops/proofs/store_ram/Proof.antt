@@ -16,7 +16,7 @@ same-length c =
     let c₂ = c₃ .before .before .before .before .before in
     let c₁ = c₂ .before .before .before .before .before in
     c₉ .b .kept .0 ∙ c₈ .indexed .kept .0 ∙ c₇ .map-test .kept .0 ∙ c₆ .b-cond .kept .0 ∙ c₅ .cmp .kept .0 ∙ c₄ .mov322 .kept .0 ∙ c₃ .sub .kept .0 ∙ c₂ .mov32 .kept .0
-    ∙ c₁ .odd-test .kept .0
+    ∙ c₁ .align-test .kept .0
 
 returns : tie.Need-returns
 returns c =
@@ -29,9 +29,11 @@ returns c =
     let c₃ = c₄ .before .before .before .before .before .before .before in
     let c₂ = c₃ .before .before .before .before .before in
     let c₁ = c₂ .before .before .before .before .before in
-    ram-store (c₁ .before .before .before .before .args .mem) _ _ _ _ _ _ _ _ _ _ _ _ _ _ _ _ (c₄ .before .before .bytes .ensures) (c₄ .before .room .ensures) (c₈ .before .stores .ensures)
-    (c₁ .odd-test .ensures) (c₂ .mov32 .ensures) (c₃ .sub .ensures) (c₄ .mov322 .ensures) (c₅ .cmp .ensures) (c₆ .b-cond .ensures) (c₇ .map-test .ensures)
-    (c₈ .indexed .ensures) (c₉ .b .ensures)
+    let a = c₁ .before .before .before .before .before .args in
+    ram-store (a .mem) _ (a .alone) _ _ _ _ _ _ _ _ _ _ _ _ _ _ _
+    (c₄ .before .before .bytes .ensures) (c₄ .before .room .ensures) (c₈ .before .stores .ensures)
+    (c₁ .align-test .ensures) (c₂ .mov32 .ensures) (c₃ .sub .ensures) (c₄ .mov322 .ensures) (c₅ .cmp .ensures) (c₆ .b-cond .ensures)
+    (c₇ .map-test .ensures) (c₈ .indexed .ensures) (c₉ .b .ensures)
 
 pub store-ram-spec : {M : Type 1} → statement M
 store-ram-spec =
