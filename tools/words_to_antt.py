@@ -20,7 +20,7 @@ UNFOLDED = {
     "record.specs.Record": "reading num16 num32 num64 fieldFault layoutFault regionFault memoryFault startFault contentsFault operationOf "
                            "operationFault operations header refusedOr layoutField memoryField addressesField startField",
     "lowering.specs.Compile": "blockWords blockLines blockCode sites starts",
-    "lowering.specs.Commit": "commitWords commitCode",
+    "lowering.specs.Commit": "commitWords commitLines commitCode",
     "lowering.specs.Fragments": "addImm brkFirst even loads tryRegion extended alignTest mapTest stores call exitImm chain ind hold "
                                 "checkBrk fork limit load store stepCode stepCache stepsCode opening closing",
     "lowering.specs.Cache": "position latest oldest chosen spill slotFor seated ldReg stReg stored flushFrom flush reloadFrom reload",

@@ -36,7 +36,8 @@ use Rattle.machine.proofs.Registers.{W-of-X}
 use Rattle.machine.proofs.Data.{exec-lsr-imm}
 use Rattle.card.specs.Card.{Card, setRam, asked, Outcome as CardOutcome, write as cardWrite}
 use Rattle.card.specs.Word.{plus, minus}
-use Rattle.card.specs.Memory.{readLE as cardBytes, writeLE as cardPut, inside, unaligned, holdsCode, direct, got, ask, store as cardStore}
+use Rattle.card.specs.Memory.{readLE as cardBytes, writeLE as cardPut, inside, unalignedStore, holdsCode, direct, got, ask}
+use Rattle.card.specs.Memory.{store as cardStore}
 use Rattle.lowering.specs.declared.RegCache.{RegCache}
 use Rattle.lowering.specs.Instrs.{CTX, RAM, FLAGS, DONE, HI, mov, movX, mov32, addI, sub, cmp, lsrI, indexed}
 use Rattle.lowering.specs.Fragments.{even, alignTest, mapTest, stores, call, store, stepCode, stepCache}
@@ -145,7 +146,7 @@ module _ {b : Block} {h : Helpers} {s0 : State} (B : Body b h s0) (C : Checked b
     odd-goes : eqb (p % 2) 1 ≡ true → Misses (to (tb nonzero 0 0) inner)
     odd-goes e = let m : p % 2 ≡ 1 = eqb-true (p % 2) 1 e in set 0 (λ r q. omega arith)
 
-    align-passes : (words : Bool) (w : Width) → unaligned words w p ≡ false → Passes (alignTest words w)
+    align-passes : (u : Bool) (w : Width) → unalignedStore u w p ≡ false → Passes (alignTest u w)
     unfolding alignTest
     align-passes u B8 e = frag-nil
     align-passes u B16 e = even-passes e
@@ -154,7 +155,7 @@ module _ {b : Block} {h : Helpers} {s0 : State} (B : Body b h s0) (C : Checked b
         let m : p % 4 ≡ 0 = eqb-true (p % 4) 0 (not-false _ e) in
         frag-then (clear 0 (λ r q. omega arith)) (clear 1 (λ r q. omega arith))
 
-    align-goes : (words : Bool) (w : Width) → unaligned words w p ≡ true → Misses (alignTest words w)
+    align-goes : (u : Bool) (w : Width) → unalignedStore u w p ≡ true → Misses (alignTest u w)
     unfolding alignTest
     align-goes u B8 e = absurd (let z : _≡_ {A = ℕ} 0 1 = cc in omega arith)
     align-goes u B16 e = odd-goes e
@@ -305,12 +306,12 @@ module _ {b : Block} {h : Helpers} {s0 : State} (B : Body b h s0) (C : Checked b
 
     -- ---- the tests together
     -- are words tested?
-    abbrev words : Bool
-    words = alone && b .memory .map
+    abbrev wordsTested : Bool
+    wordsTested = alone && b .memory .map
 
     abbrev guarded : Code (under (under n))
     guarded =
-        alignTest words w
+        alignTest wordsTested w
         then code (mov32 2 (b .memory .«ram_base») ++ (sub 3 0 2 ∷ (mov32 2 lim ++ (cmp 3 2 ∷ []))))
         then to (bCond HI) inner
         then mapTest (b .memory .map)
@@ -320,24 +321,25 @@ module _ {b : Block} {h : Helpers} {s0 : State} (B : Body b h s0) (C : Checked b
     at-lt : at < 2 ^ 32
     at-lt = omega arith
 
-    hit : unaligned words w p ≡ false → at ≤ lim → holdsCode (b .memory) at (a .c) ≡ false
+    hit : unalignedStore wordsTested w p ≡ false → at ≤ lim → holdsCode (b .memory) at (a .c) ≡ false
         → Goes (arm h base) guarded (outer inner) (Sim b s0 rc a₀) (Sim b s0 rc (stored (setRam put (a .c))))
     unfolding taken
     hit e le f =
-        goes-after (align-passes words w e) (goes-after ahead (goes-after (frag-map (range-in h base a₀ inner at lim at-lt lim-lt le) hold)
+        goes-after (align-passes wordsTested w e)
+        (goes-after ahead (goes-after (frag-map (range-in h base a₀ inner at lim at-lt lim-lt le) hold)
         (goes-after (map-passes le f) (goes-after (store-frag le) (goes-if always (outer inner) (λ s y. refl))))))
 
-    miss-align : unaligned words w p ≡ true → Misses guarded
-    miss-align e = goes-before (align-goes words w e)
+    miss-align : unalignedStore wordsTested w p ≡ true → Misses guarded
+    miss-align e = goes-before (align-goes wordsTested w e)
 
-    miss-range : unaligned words w p ≡ false → lim < at → Misses guarded
+    miss-range : unalignedStore wordsTested w p ≡ false → lim < at → Misses guarded
     miss-range e lt =
-        goes-after (align-passes words w e)
+        goes-after (align-passes wordsTested w e)
         (goes-after ahead (goes-before (goes-map (range-out h base a₀ inner at lim at-lt lim-lt lt) (λ s y. back s (hold s y)))))
 
-    miss-map : unaligned words w p ≡ false → at ≤ lim → holdsCode (b .memory) at (a .c) ≡ true → Misses guarded
+    miss-map : unalignedStore wordsTested w p ≡ false → at ≤ lim → holdsCode (b .memory) at (a .c) ≡ true → Misses guarded
     miss-map e le f =
-        goes-after (align-passes words w e)
+        goes-after (align-passes wordsTested w e)
         (goes-after ahead (goes-after (frag-map (range-in h base a₀ inner at lim at-lt lim-lt le) hold) (goes-before (map-goes le f))))
 
     -- ---- what each makes of the step
@@ -353,7 +355,7 @@ module _ {b : Block} {h : Helpers} {s0 : State} (B : Body b h s0) (C : Checked b
     asked-meets g [] e = tt
     asked-meets g (o ∷ os) e = frag-pre start (frag-block (frag-then (block-here g) (slow-frag o os e)))
 
-    cases : (u : Bool) → unaligned words w p ≡ u → (x : Bool) → leb at lim ≡ x → (y : Bool) → holdsCode (b .memory) at (a .c) ≡ y
+    cases : (u : Bool) → unalignedStore wordsTested w p ≡ u → (x : Bool) → leb at lim ≡ x → (y : Bool) → holdsCode (b .memory) at (a .c) ≡ y
         → Meets h base b s0 rc a {n = n} (store b rc w alone i) rc
         (ifGot (cond (not u && x && not y) (got 0 (setRam put (a .c)))
         (ask (cardWrite p (bytes w) (plus (a .c .done) i) v) (a .c .outcomes) (a .c))) (λ u c. go (stored c)))
@@ -374,5 +376,5 @@ module _ {b : Block} {h : Helpers} {s0 : State} (B : Body b h s0) (C : Checked b
       by none e o′ e′ = tt
       by (some p) e none e′ = tt
       by (some p) e (some v) e′ =
-          cases p v e e′ (unaligned (words p v e e′) w p) refl (leb (at p v e e′) (lim p v e e′)) refl
+          cases p v e e′ (unalignedStore (wordsTested p v e e′) w p) refl (leb (at p v e e′) (lim p v e e′)) refl
           (holdsCode (b .memory) (at p v e e′) (a .c)) refl

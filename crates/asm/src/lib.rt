@@ -13,7 +13,7 @@ ghost use Rattle.asm.specs.State.{fixNo, fixOf, refNo, refOf, packed, fi
 use code::Fix;
 
 // The table: the positions of so many labels, so many literals, so many fix-ups. Sized for 32 operations that move
-// groups of registers, each a store of its own with its tests, and a guard.
+// groups of registers, each word with its tests of the regions, and a guard.
 pub const LABELS: u32 = 2048;
 
 pub const LITERALS: u32 = 8;

@@ -18,7 +18,8 @@ use Rattle.block.specs.Checked.{Checked}
 use Rattle.code.specs.Items.{Sound}
 use Rattle.code.specs.Tree.{Depth, top, under, Var, inner, outer, Fine}
 use Rattle.lowering.specs.declared.RegCache.{RegCache}
-use Rattle.lowering.specs.Instrs.{CPU, CTX, RAM, XIP, DONE, LIMIT, FLAGS, mov, movX, mov32, sub, cmp, and, ldr, str, strX, ldrX, ubfx, addXLsl, br, blr, indexed, lsrI}
+use Rattle.lowering.specs.Instrs.{CPU, CTX, RAM, XIP, DONE, LIMIT, FLAGS, mov, movX, mov32, sub, cmp, and, ldr, str, strX, ldrX, ubfx}
+use Rattle.lowering.specs.Instrs.{addXLsl, br, blr, indexed, lsrI}
 use Rattle.lowering.specs.Cache.{flush}
 use Rattle.lowering.specs.Steps.{Field, sp, rets, Step}
 use Rattle.lowering.specs.Fragments.{fieldAt, addImm, brkFirst, even, loads, tryRegion, extended, alignTest, mapTest, stores, call, exitImm}

@@ -2,7 +2,7 @@
 -- three; the invariant: its length is at most the number of the three that stand in it.
 use mathlib.Core.Path.{_≡_, refl, sym, subst, _∙_}
 use mathlib.Core.Bool.{Bool, true, false, _&&_}
-use mathlib.Core.List.{List, [], _∷_, _++_, map}
+use mathlib.Core.List.{List, [], _∷_, map}
 use Prim.Native.Nat.{ℕ, suc, _+_, _≤_}
 use native.Mathlib.Omega.{arith}
 use lib.Dec.{eqb}
@@ -13,7 +13,9 @@ use Rattle.block.specs.declared.Width.{Width}
 use Rattle.block.specs.declared.Width.the-variants.{Byte as B8, Half as B16, Word as B32}
 use Rattle.block.specs.declared.Block.{Block}
 use Rattle.code.specs.Items.{pick, add}
-use Rattle.code.specs.Tree.{Depth, top, Var, Code, code, lit, to, exit, block, start, _then_, words, inside, lines, nowhere, wholeLines, Line, plain, over, back, load, poolIn}
+use Rattle.code.specs.Tree.{Depth, top, Var, Code, code, lit, to, exit, block, start, _then_, words, inside, lines, nowhere, wholeLines}
+use Rattle.code.specs.Tree.{plain, back, poolIn}
+use Rattle.code.proofs.Tree.{poolIn-append, poolIn-plain}
 use Rattle.lowering.specs.declared.RegCache.{RegCache}
 use Rattle.lowering.specs.Steps.{Step}
 use Rattle.lowering.specs.Fragments.{brkFirst, tryRegion, alignTest, mapTest, call, exitImm, chain, ind, checkBrk, fork, limit}
@@ -73,19 +75,6 @@ Literals P (block c) = Literals P c
 Literals P (start rd c) = Literals P c
 Literals P (c then d) = Literals P c × Literals P d
 
-pool-append : (ps : List ℕ) (xs ys : List Line) → poolIn ps (xs ++ ys) ≡ poolIn (poolIn ps xs) ys
-unfolding poolIn
-pool-append ps [] ys = refl
-pool-append ps (plain i ∷ xs) ys = pool-append ps xs ys
-pool-append ps (over h n ∷ xs) ys = pool-append ps xs ys
-pool-append ps (back rd n ∷ xs) ys = pool-append ps xs ys
-pool-append ps (load rt v ∷ xs) ys = pool-append (add v ps) xs ys
-
-pool-plain : (ps : List ℕ) (is : List Instr) → poolIn ps (map plain is) ≡ ps
-unfolding poolIn
-pool-plain ps [] = refl
-pool-plain ps (i ∷ is) = pool-plain ps is
-
 module _ (a b c : ℕ) where
   abbrev Few : List ℕ → Type 0
   Few ps = length ps ≤ has a ps + has b ps + has c ps
@@ -107,15 +96,16 @@ module _ (a b c : ℕ) where
 
   few-lines : {n : Depth} (k : Code n) (d : Var n → ℕ) (x : ℕ) (ps : List ℕ) → Literals Keeps k → Few ps → Few (poolIn ps (lines k d x))
   unfolding lines poolIn
-  few-lines (code is) d x ps l h = subst Few (sym (pool-plain ps is)) h
+  few-lines (code is) d x ps l h = subst Few (sym (poolIn-plain ps is)) h
   few-lines (lit rt v) d x ps l h = l ps h
   few-lines (to t v) d x ps l h = h
   few-lines (exit t) d x ps l h = h
   few-lines (block k) d x ps l h = few-lines k (inside 0 d) x ps l h
   few-lines (start rd k) d x ps l h =
-      subst Few (sym (pool-append ps (lines k (λ v. suc (d v)) (suc x)) (back rd (words k) ∷ []))) (few-lines k (λ v. suc (d v)) (suc x) ps l h)
+      subst Few (sym (poolIn-append ps (lines k (λ v. suc (d v)) (suc x)) (back rd (words k) ∷ [])))
+      (few-lines k (λ v. suc (d v)) (suc x) ps l h)
   few-lines (j then k) d x ps l h =
-      subst Few (sym (pool-append ps (lines j (λ v. words k + d v) (words k + x)) (lines k d x)))
+      subst Few (sym (poolIn-append ps (lines j (λ v. words k + d v) (words k + x)) (lines k d x)))
       (few-lines k d x (poolIn ps (lines j (λ v. words k + d v) (words k + x))) (l .1) (few-lines j (λ v. words k + d v) (words k + x) ps (l .0) h))
 
 -- ---- the lowering's literals
@@ -171,5 +161,6 @@ module _ (blk : Block) where
       let a = blk .addresses .«h_read» in
       let b = blk .addresses .«h_write» in
       let c = blk .addresses .table in
-      subst (λ ps. length ps ≤ 3) (sym (pool-append [] (lines k nowhere 0) (map plain end) ∙ pool-plain (poolIn [] (lines k nowhere 0)) end))
+      subst (λ ps. length ps ≤ 3)
+      (sym (poolIn-append [] (lines k nowhere 0) (map plain end) ∙ poolIn-plain (poolIn [] (lines k nowhere 0)) end))
       (few-three a b c (poolIn [] (lines k nowhere 0)) (few-lines a b c k nowhere 0 [] (tt, steps-literals rc ss) (omega arith)))

@@ -1,5 +1,6 @@
 -- A step's code is short: its words, labels and fix-ups are at most what the step costs; and a test of a bit is near the label that
 -- it goes to.
+use mathlib.Core.Path.{_≡_, refl}
 use mathlib.Core.Bool.{Bool, true, false, not, _&&_}
 use mathlib.Core.List.{List, [], _∷_, _++_}
 use Prim.Native.Nat.{ℕ, suc, _+_, _-_, _/_, _%_, _<_, _≤_}
@@ -120,27 +121,20 @@ map-short n false = record { words-le = omega arith; labels-le = omega arith; ju
 map-short n true = record { words-le = omega arith; labels-le = omega arith; jumps-le = omega arith; tests = λ d x. (tt, tt) }
 
 -- the tests of a bit, k at most: each goes behind the block around it, the first of two past the second
-pub record Aligns (k : ℕ) (n : Depth) (u : Bool) (w : Width) : Type 0 where
+record Aligns (k : ℕ) (n : Depth) (u : Bool) (w : Width) : Type 0 where
   pub words-le : words (alignTest {n = n} u w) ≤ k
   pub labels-le : labels (alignTest {n = n} u w) ≤ 0
   pub jumps-le : jumps (alignTest {n = n} u w) ≤ k
   pub tests : (d : Var (under n) → ℕ) (x : ℕ) → 2 + d inner < 8192 → Tests (alignTest {n = n} u w) d x
 
--- a halfword's
-one-test : (n : Depth) (w : Width) → Aligns 1 n false w
+-- one, of a halfword; two of a word, where words are tested
+aligns : (k : ℕ) (n : Depth) (u : Bool) (w : Width) → 1 ≤ k → (u ≡ true → 2 ≤ k) → Aligns k n u w
 unfolding alignTest words labels jumps Tests
-one-test n B8 = record { words-le = omega arith; labels-le = omega arith; jumps-le = omega arith; tests = λ d x h. tt }
-one-test n B16 = record { words-le = omega arith; labels-le = omega arith; jumps-le = omega arith; tests = λ d x h. omega arith }
-one-test n B32 = record { words-le = omega arith; labels-le = omega arith; jumps-le = omega arith; tests = λ d x h. tt }
-
--- where words are tested, a word's
-two-tests : (n : Depth) (u : Bool) (w : Width) → Aligns 2 n u w
-unfolding alignTest words labels jumps Tests
-two-tests n u B8 = record { words-le = omega arith; labels-le = omega arith; jumps-le = omega arith; tests = λ d x h. tt }
-two-tests n u B16 = record { words-le = omega arith; labels-le = omega arith; jumps-le = omega arith; tests = λ d x h. omega arith }
-two-tests n false B32 = record { words-le = omega arith; labels-le = omega arith; jumps-le = omega arith; tests = λ d x h. tt }
-two-tests n true B32 =
-    record { words-le = omega arith; labels-le = omega arith; jumps-le = omega arith; tests = λ d x h. (omega arith, omega arith) }
+aligns k n u B8 one two = record { words-le = omega arith; labels-le = omega arith; jumps-le = omega arith; tests = λ d x h. tt }
+aligns k n u B16 one two = record { words-le = one; labels-le = omega arith; jumps-le = one; tests = λ d x h. omega arith }
+aligns k n false B32 one two = record { words-le = omega arith; labels-le = omega arith; jumps-le = omega arith; tests = λ d x h. tt }
+aligns k n true B32 one two =
+    record { words-le = two refl; labels-le = omega arith; jumps-le = two refl; tests = λ d x h. (omega arith, omega arith) }
 
 region-short : (n : Depth) (reg gbase len : ℕ) (w : Width) (signed : Bool) (miss done : Var n)
     → Short 12 0 2 (tryRegion reg gbase len w signed miss done)
@@ -274,8 +268,12 @@ module _ (blk : Block) (rc : RegCache) (n : Depth) where
       }
 
   store-short : (w : Width) (alone : Bool) (i : ℕ) → CostsAtMost (costOf (Step.store w alone i)) (store blk rc {n = n} w alone i)
-  store-short w true i = tested-short 2 w true i (omega arith) (omega arith) (two-tests (under n) (blk .memory .map) w)
-  store-short w false i = tested-short 1 w false i (omega arith) (omega arith) (one-test (under n) w)
+  store-short w true i =
+      tested-short 2 w true i (omega arith) (omega arith)
+      (aligns 2 (under n) (blk .memory .map) w (omega arith) (λ e. omega arith))
+  store-short w false i =
+      tested-short 1 w false i (omega arith) (omega arith)
+      (aligns 1 (under n) false w (omega arith) (λ e. absurd (let z : _≡_ {A = ℕ} 0 1 = cc in omega arith)))
 
   plain-short : (w : ℕ) (is : List Instr) → length is ≤ w → CostsAtMost (cost w 0 0 0) {n = n} (Code.code is)
   unfolding words labels jumps Tests

@@ -1,4 +1,5 @@
-// Operations that use the bus (kinds 21 to 29), each as the steps of the definition's line for it; i is the operation's position.
+// Operations that use the bus (kinds 21 to 29), each as the steps of the definition's line for it, and what PushRet has in common with
+// PushRets; i is the operation's position.
 ghost use Prim.Native.Nat.{ℕ};
 ghost use Rattle.lowering.specs.Given.{given};
 ghost use Rattle.lowering.specs.Steps.{Step as Meant, lowered, changed as changedBy, rmwValue, push, rets};
@@ -249,7 +250,7 @@ pub fn rets_to_stack(
     lower::store(out, tab, q, lay, mem, addr, Width::Word, alone, i)
 }
 
-// rets to the stack
+// PushRet: rets to the stack, alone
 pub fn push_ret(
     out: &mut [u32],
     tab: &mut [u64; 6152],

@@ -1,15 +1,16 @@
 -- The starred lines hold, and blocks computed: a load at RAM's last offset, then a load from outside whose outcome sets the break word; one
--- group each; and an unaligned word stored.
-use mathlib.Core.Bool.{Bool, true, false}
+-- group each; and unaligned words stored.
+use mathlib.Core.Bool.{Bool, true, false, not, _&&_}
 use mathlib.Core.List.{List, [], _∷_}
 use mathlib.Core.Path.{_≡_, refl}
 use Prim.Native.Nat.{ℕ}
 use lib.ListN.{length}
 use Rattle.block.specs.Block.{places, upFrom}
-use Rattle.card.specs.Kinds.{Fast, Ld, St, LdPost, BlockMove, PushRets, PopPc, LdPair, StPair, BOp, Reg, Sp, B8, B32, Block}
-use Rattle.card.specs.Word.{signedOf, signExtend}
+use Rattle.card.specs.Kinds.{Fast, Ld, St, LdPost, Rmw, PushRet, BlockMove, PushRets, PopPc, LdPair, StPair, BOp}
+use Rattle.card.specs.Kinds.{Reg, Sp, B8, B32, RmwAdd, RmwMov, Memory, Block}
+use Rattle.card.specs.Word.{minus, signedOf, signExtend}
 use Rattle.card.specs.Card.{Card, Outcome, Request, read, write}
-use Rattle.card.specs.Memory.{readLE, writeLE, load, direct, store}
+use Rattle.card.specs.Memory.{readLE, writeLE, inside, load, holdsCode, direct, store}
 use Rattle.card.specs.Step.{exits, chains, loadAll, storeAll, pushAll, popAll, opStep}
 use Rattle.card.specs.Starred.{starred}
 use Rattle.card.specs.Run.{End, left, stopped, opsFrom, run}
@@ -147,48 +148,75 @@ pub pair-stored
 unfolding run opsFrom opStep storeAll store direct writeLE
 pair-stored = refl
 
--- ---- 2026-04: r2 stored at 0x1001 or 0x1002, with code in the second group of 4 bytes, into which it reaches
-abbrev mapped : Card → Card
-mapped c =
+-- ---- 2026-04: a word stored at 0x1001 or 0x1002, with code in the second group of 4 bytes, into which it reaches
+abbrev mapped : (r1 sp : ℕ) → (ram : List ℕ) → (pc done : ℕ) → List Request → List Outcome → Card
+mapped r1 s bytes pc done qs os =
     record {
-      regs = c .regs;
-      sp = c .sp;
-      rets = c .rets;
-      hold = c .hold;
-      ram = c .ram;
+      regs = cardOf r1 0x11223344 0 0 s 7 bytes 0 pc done qs os .regs;
+      sp = s;
+      rets = 9;
+      hold = 7;
+      ram = bytes;
       map = 0 ∷ 1 ∷ [];
-      brk = c .brk;
-      pc = c .pc;
-      done = c .done;
-      requests = c .requests;
-      outcomes = c .outcomes;
+      brk = 0;
+      pc = pc;
+      done = done;
+      requests = qs;
+      outcomes = os;
     }
 
-abbrev stored : (map : Bool) → Fast → List Outcome → End
-stored m f os =
-    run (blockOf m (record { fast = f; len = 4; glue = false } ∷ [])) [] 11 (mapped (cardOf 0x1001 0x11223344 0 0 0 7 ram 0 0 10 [] os))
+-- an outcome with this RAM
+abbrev leaves : List ℕ → Outcome
+leaves bytes = record { answer = 0; brk = 0; ram = bytes; map = 0 ∷ 1 ∷ [] }
 
-abbrev ends : (ram : List ℕ) → List Request → End
-ends bytes qs = left (chains 0) (mapped (cardOf 0x1001 0x11223344 0 0 0 7 bytes 0 0x2000004 11 qs []))
+-- one operation, with or without a code map, from r1 = 0x1001, r2 = 0x11223344 and an sp, and its outcomes
+abbrev stored : (map : Bool) → Fast → (sp : ℕ) → List Outcome → End
+stored m f s os = run (blockOf m (record { fast = f; len = 4; glue = false } ∷ [])) [] 11 (mapped 0x1001 s ram 0 10 [] os)
 
--- the outside alters nothing
-abbrev kept : Outcome
-kept = record { answer = 0; brk = 0; ram = ram; map = 0 ∷ 1 ∷ [] }
+-- where it ends
+abbrev ends : (sp : ℕ) → (ram : List ℕ) → List Request → End
+ends s bytes qs = left (chains 0) (mapped 0x1001 s bytes 0x2000004 11 qs [])
 
 -- alone, with a code map: the write helper, be it for address bit 0 or for bit 1
-pub bit-0-asks : stored true (St 2 (Reg 1) 0 B32) (kept ∷ []) ≡ ends ram (write 0x1001 4 10 0x11223344 ∷ [])
+pub bit-0-asks : stored true (St 2 (Reg 1) 0 B32) 0 (leaves ram ∷ []) ≡ ends 0 ram (write 0x1001 4 10 0x11223344 ∷ [])
 unfolding run opsFrom opStep store direct readLE
 bit-0-asks = refl
 
-pub bit-1-asks : stored true (St 2 (Reg 1) 1 B32) (kept ∷ []) ≡ ends ram (write 0x1002 4 10 0x11223344 ∷ [])
+pub bit-1-asks : stored true (St 2 (Reg 1) 1 B32) 0 (leaves ram ∷ []) ≡ ends 0 ram (write 0x1002 4 10 0x11223344 ∷ [])
 unfolding run opsFrom opStep store direct readLE
 bit-1-asks = refl
 
--- the word of a group, and a word without a code map: RAM
-pub group-writes : stored true (BlockMove 1 0x0004 true false false) [] ≡ ends (1 ∷ 0x44 ∷ 0x33 ∷ 0x22 ∷ 0x11 ∷ 6 ∷ 7 ∷ 8 ∷ []) []
+-- Rmw's load is direct, its store asks with the whole result; Mov has no load
+pub modified-asks : stored true (Rmw 1 B32 RmwAdd 0 0x10) 0 (leaves ram ∷ []) ≡ ends 0 ram (write 0x1001 4 10 0x05040312 ∷ [])
+unfolding run opsFrom opStep load store direct readLE
+modified-asks = refl
+
+pub moved-asks : stored true (Rmw 1 B32 RmwMov 0 0x10) 0 (leaves ram ∷ []) ≡ ends 0 ram (write 0x1001 4 10 0x10 ∷ [])
+unfolding run opsFrom opStep store direct readLE
+moved-asks = refl
+
+pub ret-asks : stored true PushRet 0x1005 (leaves ram ∷ []) ≡ ends 0x1001 ram (write 0x1001 4 10 9 ∷ [])
+unfolding run opsFrom opStep store direct readLE
+ret-asks = refl
+
+-- a group's words, PushRets' rets among them, and a word without a code map: RAM
+pub group-writes : stored true (BlockMove 1 0x0004 true false false) 0 [] ≡ ends 0 (1 ∷ 0x44 ∷ 0x33 ∷ 0x22 ∷ 0x11 ∷ 6 ∷ 7 ∷ 8 ∷ []) []
 unfolding run opsFrom opStep storeAll store direct readLE writeLE places
 group-writes = refl
 
-pub flag-0-writes : stored false (St 2 (Reg 1) 0 B32) [] ≡ ends (1 ∷ 0x44 ∷ 0x33 ∷ 0x22 ∷ 0x11 ∷ 6 ∷ 7 ∷ 8 ∷ []) []
+-- the second word, r3, is outside RAM
+pub rets-write
+    : stored true (PushRets 3) 0x1005 (leaves (1 ∷ 9 ∷ 0 ∷ 0 ∷ 0 ∷ 6 ∷ 7 ∷ 8 ∷ []) ∷ [])
+    ≡ ends 0xffd (1 ∷ 9 ∷ 0 ∷ 0 ∷ 0 ∷ 6 ∷ 7 ∷ 8 ∷ []) (write 0xffd 4 10 0 ∷ [])
+unfolding run opsFrom opStep pushAll store direct readLE writeLE upFrom
+rets-write = refl
+
+pub flag-0-writes : stored false (St 2 (Reg 1) 0 B32) 0 [] ≡ ends 0 (1 ∷ 0x44 ∷ 0x33 ∷ 0x22 ∷ 0x11 ∷ 6 ∷ 7 ∷ 8 ∷ []) []
 unfolding run opsFrom opStep store direct readLE writeLE
 flag-0-writes = refl
+
+-- "A group .. keeps .. its definition": a word of it is direct inside RAM, whatever its address and the flag, where its group holds no code
+pub group-direct : (m : Memory) (a : ℕ) (c : Card)
+    → direct m B32 false a c ≡ inside B32 (minus a (m .«ram_base»)) (m .«ram_len») && not (holdsCode m (minus a (m .«ram_base»)) c)
+unfolding direct
+group-direct m a c = refl

@@ -36,7 +36,7 @@ evenIfHalf B16 o = o - o % 2
 evenIfHalf B32 o = o
 
 -- "A halfword load reads at the address with its lowest bit cleared." "A word access is direct at any alignment": a load, and a store
--- but for `unaligned`
+-- but for `unalignedStore`
 abbrev pub loadOffset : Width → (address base : ℕ) → ℕ
 loadOffset w a base = evenIfHalf w (minus a base)
 
@@ -68,10 +68,10 @@ load m flash i w signed a c =
 -- ---- `store`, of operation number i
 -- "An odd halfword store goes to the write helper." 2026-04: "With map flag 1 a word store whose address isn't a multiple of 4 goes to
 -- the write helper."
-abbrev pub unaligned : (words : Bool) → Width → (address : ℕ) → Bool
-unaligned words B8 a = false
-unaligned words B16 a = eqb (a % 2) 1
-unaligned words B32 a = words && not (eqb (a % 4) 0)
+abbrev pub unalignedStore : (words : Bool) → Width → (address : ℕ) → Bool
+unalignedStore words B8 a = false
+unalignedStore words B16 a = eqb (a % 2) 1
+unalignedStore words B32 a = words && not (eqb (a % 4) 0)
 
 -- "The code map (one byte per 4 RAM bytes, rounded up) is asked for the group holding the store's first byte; nonzero means the
 -- write helper."
@@ -82,7 +82,7 @@ holdsCode m o c = m .map && not (eqb (readLE (c .map) (o / 4) 1) 0)
 unfoldable pub direct : Memory → Width → (alone : Bool) → (address : ℕ) → Card → Bool
 direct m w alone a c =
     let o : ℕ = minus a (m .«ram_base») in
-    not (unaligned (alone && m .map) w a) && inside w o (m .«ram_len») && not (holdsCode m o c)
+    not (unalignedStore (alone && m .map) w a) && inside w o (m .«ram_len») && not (holdsCode m o c)
 
 -- the number of a store means nothing
 unfoldable pub store : Memory → (i : ℕ) → Width → (alone : Bool) → (address value : ℕ) → Card → Access

@@ -6,7 +6,7 @@ use Prim.Native.Nat.{ℕ, zero, suc, _+_, _-_, _*_, _/_, _%_, _^_, _<_}
 use native.Mathlib.Omega.{arith}
 use lib.Dec.{eqb}
 use lib.IntN.{pos}
-use lib.ListN.{length, getD, drop, length-map, List·getD-append}
+use lib.ListN.{length, getD, drop, length-map, length-append, List·getD-append}
 use lib.Seq.{getD-append-add}
 use borrow.Author.Tests.{eqb-true}
 use Rattle.arm.specs.declared.Instr.{Instr}
@@ -16,6 +16,7 @@ use Rattle.arm.proofs.RoundTrip.{decode-encode}
 use Rattle.code.specs.Items.{pick, adr, ldr, fill, dist, index, add, halves, padOf, baseOf, Sound}
 use Rattle.code.specs.Tree.{Line, plain, over, back, load, minus, instrs, poolIn, findIn, linesWords}
 use Rattle.code.proofs.Emit.{has, Kept, kept-new, kept-add}
+use Rattle.code.proofs.Reach.{halves-length}
 
 -- ---- the instruction of a line at position p
 unfoldable pub instr : (ℕ → ℕ) → ℕ → Line → Instr
@@ -35,6 +36,23 @@ pub instrs-length : (find : ℕ → ℕ) (p : ℕ) (ls : List Line) → length (
 unfolding instrs
 instrs-length find p [] = refl
 instrs-length find p (l ∷ ls) = ap length (instrs-cons find p l ls) ∙ ap suc (instrs-length find (suc p) ls)
+
+-- all the words: the lines', the nop's, and two a literal
+pub words-length : (ls : List Line)
+    → length (linesWords ls) ≡ length ls + (length (padOf (length ls) (poolIn [] ls)) + 2 * length (poolIn [] ls))
+unfolding linesWords
+words-length ls =
+    let is : List Instr = instrs (findIn ls) 0 ls in
+    let pad : List ℕ = padOf (length ls) (poolIn [] ls) in
+    let pool : List ℕ = halves (poolIn [] ls) in
+    omega (
+      arith,
+      length-append (map encode is) (pad ++ pool),
+      length-append pad pool,
+      length-map is encode,
+      instrs-length (findIn ls) 0 ls,
+      halves-length (poolIn [] ls),
+    )
 
 -- n further on
 pub instrs-at : (find : ℕ → ℕ) (p n : ℕ) (ls : List Line) (l : Line) (rest : List Line) (d : Instr) → drop n ls ≡ l ∷ rest → getD (instrs find p ls) n d ≡ instr find (p + n) l

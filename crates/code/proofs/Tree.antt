@@ -366,7 +366,7 @@ pool-append ps (go h (literal v) ∷ xs) ys = pool-append (add v ps) xs ys
 pool-append ps (new ∷ xs) ys = pool-append ps xs ys
 pool-append ps (bind l ∷ xs) ys = pool-append ps xs ys
 
-poolIn-append : (ps : List ℕ) (xs ys : List Line) → poolIn ps (xs ++ ys) ≡ poolIn (poolIn ps xs) ys
+pub poolIn-append : (ps : List ℕ) (xs ys : List Line) → poolIn ps (xs ++ ys) ≡ poolIn (poolIn ps xs) ys
 unfolding poolIn
 poolIn-append ps [] ys = refl
 poolIn-append ps (plain i ∷ xs) ys = poolIn-append ps xs ys
@@ -379,7 +379,7 @@ unfolding poolOf
 pool-ins ps [] = refl
 pool-ins ps (i ∷ is) = pool-ins ps is
 
-poolIn-plain : (ps : List ℕ) (is : List Instr) → poolIn ps (map plain is) ≡ ps
+pub poolIn-plain : (ps : List ℕ) (is : List Instr) → poolIn ps (map plain is) ≡ ps
 unfolding poolIn
 poolIn-plain ps [] = refl
 poolIn-plain ps (i ∷ is) = poolIn-plain ps is

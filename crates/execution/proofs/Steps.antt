@@ -5,23 +5,21 @@
 -- Assumes nothing.
 use mathlib.Core.Path.{_≡_, refl, sym, ap, ap₂, _∙_, subst}
 use mathlib.Core.Bool.{Bool, true, false}
-use mathlib.Core.List.{List, [], _∷_, _++_, map}
+use mathlib.Core.List.{List, [], _∷_}
 use Prim.Native.Nat.{ℕ, zero, suc, _+_, _-_, _*_, _/_, _%_, _^_, _≤_, _<_}
 use native.Mathlib.Nat.{mod-eq-of-lt, mod-add-mod}
 use native.Mathlib.Omega.{arith}
 use borrow.Author.Tests.{le-ltb}
 use lib.Dec.{T, eqb}
 use lib.IntN.{pos}
-use lib.ListN.{length, getD, drop, length-append, length-map}
+use lib.ListN.{length, getD, drop}
 use Rattle.arm.specs.declared.Instr.{Instr}
-use Rattle.arm.specs.Instr.{encode}
-use Rattle.code.specs.Items.{pick, Hole, b, bCond, cb, tb, adr, ldr, fill, reachOf, dist, index, padOf, halves, Sound, baseOf}
+use Rattle.code.specs.Items.{pick, Hole, b, bCond, cb, tb, adr, ldr, fill, reachOf, dist, index, Sound, baseOf}
 use Rattle.code.specs.Tree.{Line, plain, over, back, load, instrs, poolIn, findIn, linesWords}
 use Rattle.code.specs.Machine.{Eff, fall, stop, Res, stopped, stuck, goes}
 use Rattle.code.specs.Machine.{next as onward, step as lineStep}
 use Rattle.code.proofs.Emit.{has}
-use Rattle.code.proofs.Reach.{halves-length}
-use Rattle.code.proofs.Fetch.{instr, instrs-length, literal-words}
+use Rattle.code.proofs.Fetch.{instr, words-length, literal-words}
 use Rattle.code.proofs.Fetch.{fetch as decodes, loaded as pooled}
 use Rattle.machine.specs.State.{Region, State, code, withX}
 use Rattle.machine.specs.Memory.{bytesOfWords, bytesOf}
@@ -86,10 +84,7 @@ pub drop-next : {A : Type 0} (n : ℕ) (xs : List A) (x : A) (ys : List A) → d
 drop-next n xs x ys e = let z : suc n + 0 ≡ suc n = omega arith in ap (λ j. drop j xs) (sym z) ∙ drop-behind n 0 xs x ys e
 
 pub lines-words : (ls : List Line) → length ls ≤ length (linesWords ls)
-unfolding linesWords
-lines-words ls =
-    let is : List Instr = instrs (findIn ls) 0 ls in
-    omega (arith, length-append (map encode is) (padOf (length ls) (poolIn [] ls) ++ halves (poolIn [] ls)), length-map is encode, instrs-length (findIn ls) 0 ls)
+lines-words ls = omega (arith, words-length ls)
 
 -- ---- literals
 index-lt : (v : ℕ) (ps : List ℕ) → has v ps ≡ true → index v ps < length ps
@@ -103,12 +98,8 @@ index-lt v (x ∷ xs) h = go (eqb v x) (index-lt v xs) h
 
 -- a literal stands behind the code, and both of its words are there
 pub literal-in : (ls : List Line) (v : ℕ) → has v (poolIn [] ls) ≡ true → (length ls ≤ findIn ls v) × (suc (findIn ls v) < length (linesWords ls))
-unfolding findIn baseOf linesWords
-literal-in ls v h =
-    let is : List Instr = instrs (findIn ls) 0 ls in
-    let pad : List ℕ = padOf (length ls) (poolIn [] ls) in
-    let hs : List ℕ = halves (poolIn [] ls) in
-    (omega arith, omega (arith, length-append (map encode is) (pad ++ hs), length-append pad hs, length-map is encode, instrs-length (findIn ls) 0 ls, halves-length (poolIn [] ls), index-lt v (poolIn [] ls) h))
+unfolding findIn baseOf
+literal-in ls v h = (omega arith, omega (arith, words-length ls, index-lt v (poolIn [] ls) h))
 
 -- ---- a word at its position
 module _ (h : Helpers) (ls : List Line) (base : ℕ) (ready : Ready ls base) (s : State) (holds : Holds (linesWords ls) base (s .mem)) (p n : ℕ) (l : Line) (rest : List Line) (here : drop p ls ≡ l ∷ rest) where

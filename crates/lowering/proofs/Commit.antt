@@ -2,8 +2,12 @@
 use mathlib.Core.Path.{_≡_, refl, sym, subst, ap, ap₂, _∙_}
 use mathlib.Core.Bool.{Bool, true, false, _&&_}
 use mathlib.Core.List.{List, [], _∷_, _++_, map, reverse}
-use Prim.Native.Nat.{ℕ, suc, _+_, _*_}
+use Prim.Native.Nat.{ℕ, suc, _+_, _*_, _%_}
 use native.Mathlib.Omega.{arith}
+use lib.Dec.{eqb}
+use lib.ListN.{length}
+use Rattle.arm.specs.declared.Instr.{Instr}
+use Rattle.arm.specs.Instr.{encode}
 use Rattle.block.specs.declared.Width.{Width}
 use Rattle.block.specs.declared.Width.the-variants.{Byte as B8, Half as B16, Word as B32}
 use Rattle.block.specs.declared.Block.{Block}
@@ -12,16 +16,19 @@ use Rattle.block.specs.declared.Base.the-variants.{Reg, Sp}
 use Rattle.block.specs.declared.RmwOp.{RmwOp}
 use Rattle.block.specs.declared.RmwOp.the-variants.{Or as RmwOr, And as RmwAnd, Xor as RmwXor, Add as RmwAdd, Sub as RmwSub, Mov as RmwMov}
 use Rattle.block.specs.Block.{members, span, saved, pairOf}
-use Rattle.code.specs.Items.{pick}
-use Rattle.code.specs.Tree.{Depth, top, under, Code, block, _then_, words, labels, jumps, wholeLines, linesWords}
+use Rattle.code.specs.Items.{pick, padOf}
+use Rattle.code.specs.Tree.{Depth, top, under, Var, Code, code, block, _then_, words, labels, jumps, Line, plain, lines, nowhere}
+use Rattle.code.specs.Tree.{wholeLines, poolIn, linesWords}
+use Rattle.code.proofs.Tree.{poolIn-append, pool-same, whole-size, whole-length}
+use Rattle.code.proofs.Fetch.{words-length}
 use Rattle.lowering.specs.declared.RegCache.{RegCache}
 use Rattle.lowering.specs.Instrs.{KEEP, mov}
 use Rattle.lowering.specs.Cache.{emptyCache}
-use Rattle.lowering.specs.Steps.{Step, base, rmwValue, lowered, moveWords, moveBase, pushAll, blockSteps}
+use Rattle.lowering.specs.Steps.{Step, base, rmwValue, lowered, moveWords, moveBase, pop, pushAll, popAll, blockSteps}
 use Rattle.lowering.specs.Fragments.{alignTest, store, stepCode, stepCache, stepsCode, closing}
 use Rattle.lowering.specs.Compile.{blockCode, blockLines, blockWords, starts, targets, zipSites, sites}
-use Rattle.lowering.specs.Commit.{commitStep, commitCode, commitWords, commitSites, Adds, same, tests, both, isWord, wordStore}
-use Rattle.lowering.specs.Commit.{tested, allTested, Counts, AsCommit, Departs}
+use Rattle.lowering.specs.Commit.{commitStep, commitCode, commitLines, commitWords, commitSites, Adds, same, tests, both, isWord}
+use Rattle.lowering.specs.Commit.{wordStore, tested, allTested, Counts, AsCommit, Departs}
 use Rattle.lowering.proofs.Targets.{targets-append}
 
 -- ---- what is added counts
@@ -48,18 +55,61 @@ none-added (same c) e = refl
 none-added (tests f g) e = absurd (omega arith)
 none-added (both a b) e = ap₂ _then_ (none-added a (omega arith)) (none-added b (omega arith))
 
+-- ---- the pool and the length
+-- a literal's load knows no distance
+one-pool : {n : Depth} (ps : List ℕ) (c : Code n) (e f : Var n → ℕ) (x y : ℕ) → poolIn ps (lines c e x) ≡ poolIn ps (lines c f y)
+one-pool ps c e f x y = sym (pool-same ps c (λ v. 0) 0 0 e x) ∙ pool-same ps c (λ v. 0) 0 0 f y
+
+same-pool : {n : Depth} {k : ℕ} {c d : Code n} → Adds n k c d → (ps : List ℕ) (e f : Var n → ℕ) (x y : ℕ)
+    → poolIn ps (lines d e x) ≡ poolIn ps (lines c f y)
+unfolding lines poolIn
+same-pool (same c) ps e f x y = one-pool ps c e f x y
+same-pool (tests a b) ps e f x y = one-pool ps (block (block (code [] then a) then b)) e f x y
+same-pool (both {c₁ = c₁} {d₁ = d₁} {c₂ = c₂} {d₂ = d₂} a b) ps e f x y =
+    let d₃ : List Line = lines d₁ (λ v. words d₂ + e v) (words d₂ + x) in
+    let c₃ : List Line = lines c₁ (λ v. words c₂ + f v) (words c₂ + y) in
+    poolIn-append ps d₃ (lines d₂ e x) ∙ same-pool b (poolIn ps d₃) e f x y
+    ∙ ap (λ qs. poolIn qs (lines c₂ f y)) (same-pool a ps _ _ _ _) ∙ sym (poolIn-append ps c₃ (lines c₂ f y))
+
+whole-same-pool : {k : ℕ} {c d : Code top} → Adds top k c d → (end : List Instr)
+    → poolIn [] (wholeLines d end) ≡ poolIn [] (wholeLines c end)
+unfolding wholeLines
+whole-same-pool {c = c} {d = d} a end =
+    poolIn-append [] (lines d nowhere 0) (map plain end)
+    ∙ ap (λ qs. poolIn qs (map plain end)) (same-pool a [] nowhere nowhere 0 0)
+    ∙ sym (poolIn-append [] (lines c nowhere 0) (map plain end))
+
+-- two words a store leave the pool's place even or odd, as it was
+same-pad : (n k : ℕ) (ps : List ℕ) → padOf (n + 2 * k) ps ≡ padOf n ps
+unfolding padOf
+same-pad n k [] = refl
+same-pad n k (v ∷ vs) = ap (λ m. pick (eqb m 0) [] (encode Instr.Nop ∷ [])) (let z : (n + 2 * k) % 2 ≡ n % 2 = omega arith in z)
+
+more-length : {k : ℕ} {c d : Code top} → Adds top k c d → (end : List Instr)
+    → length (linesWords (wholeLines d end)) ≡ length (linesWords (wholeLines c end)) + 2 * k
+more-length {k} {c} {d} a end =
+    let ds : List Line = wholeLines d end in
+    let cs : List Line = wholeLines c end in
+    let pool : poolIn [] ds ≡ poolIn [] cs = whole-same-pool a end in
+    let size-c : length cs ≡ words c + length end = sym (whole-length c end) ∙ whole-size c end in
+    let size-d : length ds ≡ words d + length end = sym (whole-length d end) ∙ whole-size d end in
+    let size : length ds ≡ length cs + 2 * k = omega (arith, more-words a, size-c, size-d) in
+    let pad : padOf (length ds) (poolIn [] ds) ≡ padOf (length cs) (poolIn [] cs) =
+    ap₂ padOf size pool ∙ same-pad (length cs) k (poolIn [] cs) in
+    omega (arith, words-length ds, words-length cs, size, ap length pad, ap length pool)
+
 -- ---- a step, the steps, the block
 -- with the same code before
 last-adds : {n : Depth} {k : ℕ} {c d : Code n} (e : Code n) → Adds n k c d → Adds n k (e then c) (e then d)
 last-adds {n} {k} {c} {d} e a = subst (λ j. Adds n j (e then c) (e then d)) (let z : 0 + k ≡ k = omega arith in z) (both (same e) a)
 
 test-adds : {n : Depth} (e : Code (under (under n))) (f : Code (under n)) (w : Width) (alone on : Bool)
-    → Adds n (pick ((isWord w && alone) && on) 1 0) (block (block (alignTest false w then e) then f))
+    → Adds n (pick ((alone && isWord w) && on) 1 0) (block (block (alignTest false w then e) then f))
     (block (block (alignTest (alone && on) w then e) then f))
 unfolding alignTest
-test-adds e f B8 alone on = same _
-test-adds e f B16 alone on = same _
-test-adds e f B32 false on = same _
+test-adds e f w false on = same _
+test-adds e f B8 true on = same _
+test-adds e f B16 true on = same _
 test-adds e f B32 true false = same _
 test-adds e f B32 true true = tests e f
 
@@ -127,7 +177,7 @@ module _ (blk : Block) where
   block-adds = last-adds _ (steps-add emptyCache (blockSteps blk))
 
   as-commit : allTested blk (blockSteps blk) ≡ 0 → AsCommit blk
-  unfolding blockWords blockLines commitWords sites commitSites
+  unfolding blockWords blockLines commitWords commitLines sites commitSites
   as-commit e =
       let code-same : blockCode blk ≡ commitCode blk = none-added block-adds e in
       record {
@@ -177,14 +227,21 @@ module _ (blk : Block) where
   value-untested RmwSub w v i = refl
   value-untested RmwMov w v i = refl
 
+  pops-untested : (i : ℕ) (rs : List ℕ) → allTested blk (popAll i rs) ≡ 0
+  unfolding allTested popAll
+  pops-untested i [] = refl
+  pops-untested i (r ∷ rs) = omega (arith, pops-untested i rs)
+
   counted : (i next : ℕ) → Counts blk i next
   unfolding allTested lowered
   counted i next =
       record {
-        stored = λ s off b. omega (arith, base-untested b);
-        indexed = λ s b x sh. omega arith;
-        posted = λ s b inc. omega arith;
-        modified = λ b off v op. omega (arith, tested-append (rmwValue op B32 v i) (Step.ins (mov 0 KEEP) ∷ Step.store B32 true i ∷ []), value-untested op B32 v i);
+        stored = λ s off b w. omega (arith, base-untested b);
+        indexed = λ s b x sh w. omega arith;
+        posted = λ s b inc w. omega arith;
+        modified = λ b off v w op.
+            let last : List Step = Step.ins (mov 0 KEEP) ∷ Step.store w true i ∷ [] in
+            omega (arith, tested-append (rmwValue op w v i) last, value-untested op w v i);
         ret-pushed = omega arith;
         moved = λ b mask store post down.
             omega (
@@ -193,11 +250,16 @@ module _ (blk : Block) where
               words-untested store i 0 (members mask),
               moved-base-untested post down (span mask) b,
             );
-        pushed = λ n. omega (arith, pushes-untested i (reverse (saved n)));
-        paired = λ p off b. omega (arith, base-untested b, words-untested true i 0 (pairOf p));
+        rets-pushed = λ n. omega (arith, pushes-untested i (reverse (saved n)));
+        pc-popped = λ n.
+            let last : List Step = pop i (Step.ins (mov KEEP 0)) ++ (Step.ind KEEP (i + 1) true ∷ []) in
+            omega (arith, tested-append (popAll i (saved n)) last, pops-untested i (saved n));
+        pair-loaded = λ p off b. omega (arith, base-untested b, words-untested false i 0 (pairOf p));
+        pair-stored = λ p off b. omega (arith, base-untested b, words-untested true i 0 (pairOf p));
       }
 
   pub departs : Departs blk
+  unfolding blockLines blockWords commitLines commitWords
   departs =
       record {
         step = step-adds;
@@ -206,6 +268,8 @@ module _ (blk : Block) where
         jumps-more = more-jumps block-adds;
         labels-same = same-labels block-adds;
         targets-same = targets-as (blockSteps blk);
+        pool-same = whole-same-pool block-adds closing;
+        length-more = more-length block-adds closing;
         untested = as-commit;
         flag-0 = λ e. as-commit (no-tests e (blockSteps blk));
         counts = counted;

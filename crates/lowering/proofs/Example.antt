@@ -26,7 +26,7 @@ use Rattle.lowering.specs.Fragments.{addImm, brkFirst, even, loads, tryR
 use Rattle.lowering.specs.Fragments.{chain, ind, hold, checkBrk, fork, limit, load, store, stepCode, stepCache, stepsCode, opening}
 use Rattle.lowering.specs.Fragments.{closing}
 use Rattle.lowering.specs.Compile.{blockWords, blockLines, blockCode, sites, starts}
-use Rattle.lowering.specs.Commit.{commitCode, commitWords}
+use Rattle.lowering.specs.Commit.{commitCode, commitLines, commitWords}
 
 abbrev nop : BOp
 nop = record { fast = Nop; len = 0; glue = false }
@@ -287,5 +287,5 @@ pub fourth-commit : commitWords fourth ≡
     ∷ 0x52808149 ∷ 0x72a04009 ∷ 0xb9004a69 ∷ 0x11001740 ∷ 0x1400000a ∷ 0x1100175a ∷ 0x14000001 ∷ 0x52808149
     ∷ 0x72a04009 ∷ 0xb9004a69 ∷ 0x10ffff8a ∷ 0xf900128a ∷ 0x2a1a03e0 ∷ 0x14000001 ∷ 0xa94573fb ∷ 0xa9446bf9
     ∷ 0xa94363f7 ∷ 0xa9425bf5 ∷ 0xa94153f3 ∷ 0xa8c67bfd ∷ 0xd65f03c0 ∷ 0xd503201f ∷ 0x77778888 ∷ 0x55556666 ∷ []
-unfolding commitWords commitCode addImm brkFirst even loads tryRegion extended alignTest mapTest stores call exitImm chain ind hold checkBrk fork limit load store stepCode stepCache stepsCode opening closing position latest oldest chosen spill slotFor seated ldReg stReg stored flushFrom flush reloadFrom reload mov32 places upFrom moveWords pushAll popAll lowered opSteps opsSteps blockSteps index add halves padOf baseOf words lines instrs wholeLines poolIn findIn linesWords
+unfolding commitWords commitLines commitCode addImm brkFirst even loads tryRegion extended alignTest mapTest stores call exitImm chain ind hold checkBrk fork limit load store stepCode stepCache stepsCode opening closing position latest oldest chosen spill slotFor seated ldReg stReg stored flushFrom flush reloadFrom reload mov32 places upFrom moveWords pushAll popAll lowered opSteps opsSteps blockSteps index add halves padOf baseOf words lines instrs wholeLines poolIn findIn linesWords
 fourth-commit = refl

@@ -3,21 +3,24 @@ use mathlib.Core.Path.{_≡_}
 use mathlib.Core.Bool.{Bool, true, false, _&&_}
 use mathlib.Core.List.{List, [], _∷_, map}
 use Prim.Native.Nat.{ℕ, _+_, _*_}
+use lib.ListN.{length}
+use Rattle.arm.specs.declared.Test.the-variants.{Nonzero as nonzero}
 use Rattle.block.specs.declared.Width.{Width}
 use Rattle.block.specs.declared.Width.the-variants.{Byte as B8, Half as B16, Word as B32}
 use Rattle.block.specs.declared.Block.{Block}
 use Rattle.block.specs.declared.Base.{Base}
 use Rattle.block.specs.declared.RmwOp.{RmwOp}
 use Rattle.block.specs.declared.Fast.{Fast}
-use Rattle.block.specs.declared.Fast.the-variants.{St, StIdx, StPost, Rmw, PushRet, BlockMove, PushRets, StPair}
-use Rattle.code.specs.Items.{pick}
-use Rattle.code.specs.Tree.{Depth, top, under, Code, code, block, _then_, words, labels, jumps, wholeLines, linesWords}
+use Rattle.block.specs.declared.Fast.the-variants.{St, StIdx, StPost, Rmw, PushRet, BlockMove, PushRets, PopPc, LdPair, StPair}
+use Rattle.code.specs.Items.{pick, tb}
+use Rattle.code.specs.Tree.{Depth, top, under, inner, Code, code, to, block, _then_, words, labels, jumps, Line, wholeLines, poolIn}
+use Rattle.code.specs.Tree.{linesWords}
 use Rattle.lowering.specs.declared.RegCache.{RegCache}
 use Rattle.lowering.specs.Cache.{emptyCache}
 use Rattle.lowering.specs.Steps.{Step, lowered, blockSteps}
-use Rattle.lowering.specs.Fragments.{wordTests, stepCode, stepsCode, opening, closing}
+use Rattle.lowering.specs.Fragments.{stepCode, stepsCode, opening, closing}
 use Rattle.lowering.specs.declared.Site.{Site}
-use Rattle.lowering.specs.Compile.{blockCode, blockWords, starts, targets, zipSites, sites}
+use Rattle.lowering.specs.Compile.{blockCode, blockLines, blockWords, starts, targets, zipSites, sites}
 
 -- a step as the commit has it: no word that is stored is tested
 abbrev pub commitStep : Step → Step
@@ -39,19 +42,24 @@ commitStep (Step.limit pc count) = Step.limit pc count
 unfoldable pub commitCode : Block → Code top
 commitCode blk = code opening then stepsCode blk emptyCache (map commitStep (blockSteps blk))
 
+unfoldable pub commitLines : Block → List Line
+commitLines blk = wholeLines (commitCode blk) closing
+
 -- the words of the commit's `compile`
 unfoldable pub commitWords : Block → List ℕ
-commitWords blk = linesWords (wholeLines (commitCode blk) closing)
+commitWords blk = linesWords (commitLines blk)
 
 unfoldable pub commitSites : Block → List Site
 commitSites blk = zipSites (starts (commitCode blk) 0) (targets (map commitStep (blockSteps blk)))
 
 -- ---- what is added
--- d is c with the two tests added in k stores: before all else of a store, and to f, its slow path, behind the inner block
+-- d is c with two words more in each of k stores: "tests of address bit 0 and then bit 1, both to the slow path". They stand before all
+-- else of a store, and f is its slow path, behind the inner block
 pub data Adds : (n : Depth) → (k : ℕ) → (c d : Code n) → Type 0 where
   same : {n : Depth} (c : Code n) → Adds n 0 c c
   tests : {n : Depth} (e : Code (under (under n))) (f : Code (under n))
-      → Adds n 1 (block (block (code [] then e) then f)) (block (block (wordTests then e) then f))
+      → Adds n 1 (block (block (code [] then e) then f))
+      (block (block ((to (tb nonzero 0 0) inner then to (tb nonzero 1 0) inner) then e) then f))
   both : {n : Depth} {j k : ℕ} {c₁ d₁ c₂ d₂ : Code n} → Adds n j c₁ d₁ → Adds n k c₂ d₂ → Adds n (j + k) (c₁ then c₂) (d₁ then d₂)
 
 abbrev pub isWord : Width → Bool
@@ -69,7 +77,7 @@ wordStore (Step.mov32 t v) = false
 wordStore (Step.addImm d s v) = false
 wordStore (Step.ins i) = false
 wordStore (Step.load w signed i) = false
-wordStore (Step.store w alone i) = isWord w && alone
+wordStore (Step.store w alone i) = alone && isWord w
 wordStore (Step.checkBrk glue pc count) = false
 wordStore (Step.chain pc count) = false
 wordStore (Step.fork cond pc target count) = false
@@ -92,15 +100,17 @@ testedIn blk f i next = allTested blk (lowered f i next)
 -- ---- the sentences
 pub record Counts (blk : Block) (i next : ℕ) : Type 0 where
   -- "With map flag 1 a word store .. Rmw's and PushRet's stores count too."
-  pub stored : (s off : ℕ) (b : Base) → testedIn blk (St s b off B32) i next ≡ pick (blk .memory .map) 1 0
-  pub indexed : (s b x sh : ℕ) → testedIn blk (StIdx s b x sh B32) i next ≡ pick (blk .memory .map) 1 0
-  pub posted : (s b inc : ℕ) → testedIn blk (StPost s b B32 inc) i next ≡ pick (blk .memory .map) 1 0
-  pub modified : (b off v : ℕ) (op : RmwOp) → testedIn blk (Rmw b B32 op off v) i next ≡ pick (blk .memory .map) 1 0
+  pub stored : (s off : ℕ) (b : Base) (w : Width) → testedIn blk (St s b off w) i next ≡ pick (isWord w && blk .memory .map) 1 0
+  pub indexed : (s b x sh : ℕ) (w : Width) → testedIn blk (StIdx s b x sh w) i next ≡ pick (isWord w && blk .memory .map) 1 0
+  pub posted : (s b inc : ℕ) (w : Width) → testedIn blk (StPost s b w inc) i next ≡ pick (isWord w && blk .memory .map) 1 0
+  pub modified : (b off v : ℕ) (w : Width) (op : RmwOp) → testedIn blk (Rmw b w op off v) i next ≡ pick (isWord w && blk .memory .map) 1 0
   pub ret-pushed : testedIn blk PushRet i next ≡ pick (blk .memory .map) 1 0
   -- "A group of 2026-01 is no word store here: it keeps its words"
   pub moved : (b mask : ℕ) (store post down : Bool) → testedIn blk (BlockMove b mask store post down) i next ≡ 0
-  pub pushed : (n : ℕ) → testedIn blk (PushRets n) i next ≡ 0
-  pub paired : (p off : ℕ) (b : Base) → testedIn blk (StPair p b off) i next ≡ 0
+  pub rets-pushed : (n : ℕ) → testedIn blk (PushRets n) i next ≡ 0
+  pub pc-popped : (n : ℕ) → testedIn blk (PopPc n) i next ≡ 0
+  pub pair-loaded : (p off : ℕ) (b : Base) → testedIn blk (LdPair p b off) i next ≡ 0
+  pub pair-stored : (p off : ℕ) (b : Base) → testedIn blk (StPair p b off) i next ≡ 0
 
 -- words and chain sites are the commit's
 pub record AsCommit (blk : Block) : Type 0 where
@@ -111,13 +121,16 @@ pub record AsCommit (blk : Block) : Type 0 where
 pub record Departs (blk : Block) : Type 0 where
   -- each step's code is the commit's but for these tests
   pub step : {n : Depth} (rc : RegCache) (s : Step) → Adds n (tested blk s) (stepCode blk rc {n = n} (commitStep s)) (stepCode blk rc s)
-  -- so is the block's
+  -- so is the block's, one step behind another
   pub whole : Adds top (allTested blk (blockSteps blk)) (commitCode blk) (blockCode blk)
   -- "Two more words stand where the odd halfword has its test": two words and two fix-ups each, no label, and no other target
   pub words-more : words (blockCode blk) ≡ words (commitCode blk) + 2 * allTested blk (blockSteps blk)
   pub jumps-more : jumps (blockCode blk) ≡ jumps (commitCode blk) + 2 * allTested blk (blockSteps blk)
   pub labels-same : labels (blockCode blk) ≡ labels (commitCode blk)
   pub targets-same : targets (blockSteps blk) ≡ targets (map commitStep (blockSteps blk))
+  -- the same pool, and a nop before it where the commit has one: the words are two more each in all
+  pub pool-same : poolIn [] (blockLines blk) ≡ poolIn [] (commitLines blk)
+  pub length-more : length (blockWords blk) ≡ length (commitWords blk) + 2 * allTested blk (blockSteps blk)
   pub untested : allTested blk (blockSteps blk) ≡ 0 → AsCommit blk
   -- "With flag 0 the words are unchanged."
   pub flag-0 : blk .memory .map ≡ false → AsCommit blk

@@ -178,10 +178,10 @@ pub fn load(
 }
 
 // Where words are tested, one that is on no multiple of 4 goes to the write helper: address bit 0, then bit 1.
-fn word_tests(out: &mut [u32], tab: &mut [u64; 6152], a: Asm, words: bool, slow: Label) -> Asm
-    ensures { λ r. ⌜ state (now (out .exit)) (now (tab .exit)) r ≡ afterT (alignTest words Width.Word) (inside (slow .0) nowhere) 0 (state (now (out .entry)) (now (tab .entry)) a) ⌝ }
+fn word_tests(out: &mut [u32], tab: &mut [u64; 6152], a: Asm, tested: bool, slow: Label) -> Asm
+    ensures { λ r. ⌜ state (now (out .exit)) (now (tab .exit)) r ≡ afterT (alignTest tested Width.Word) (inside (slow .0) nowhere) 0 (state (now (out .entry)) (now (tab .entry)) a) ⌝ }
 {
-    if words {
+    if tested {
         let a = asm::tbnz(out, tab, a, 0, 0, slow);
         return asm::tbnz(out, tab, a, 0, 1, slow);
     }
@@ -193,16 +193,16 @@ fn align_test(
     out: &mut [u32],
     tab: &mut [u64; 6152],
     a: Asm,
-    words: bool,
+    tested: bool,
     w: Width,
     slow: Label,
 ) -> Asm
-    ensures { λ r. ⌜ state (now (out .exit)) (now (tab .exit)) r ≡ afterT (alignTest words w) (inside (slow .0) nowhere) 0 (state (now (out .entry)) (now (tab .entry)) a) ⌝ }
+    ensures { λ r. ⌜ state (now (out .exit)) (now (tab .exit)) r ≡ afterT (alignTest tested w) (inside (slow .0) nowhere) 0 (state (now (out .entry)) (now (tab .entry)) a) ⌝ }
 {
     match w {
         Width::Byte => a,
         Width::Half => asm::tbnz(out, tab, a, 0, 0, slow),
-        Width::Word => word_tests(out, tab, a, words, slow),
+        Width::Word => word_tests(out, tab, a, tested, slow),
     }
 }
 
