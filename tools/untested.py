@@ -6,9 +6,9 @@ ORACLE_DIR is tests/oracle, ORACLE the program that its build.py makes, and PROG
 are those of crates/blockcases/stdin, and those of ROWS, each with the row's map flag. Of each whose block has room, the pairs included,
 PROGRAM's listing is taken, and:
 
-  - with map flag 1 a pair of words that test address bit 0 and then bit 1 stands there for each word store of its own, counted from the
-    record's operations (WIDTHS, and PushRet), and none for a group; with flag 0 there is no pair;
-  - a pair stands where the odd halfword has its test, right before the first word of the store; both words of it go where the store's range
+  - with map flag 1 there are as many pairs of words that test address bit 0 and then bit 1 as the record has word stores of its own, counted
+    from its operations (WIDTHS, and PushRet); with flag 0 there is no pair;
+  - a pair stands where the odd halfword has its test, right before the first word of a store; both words of it go where the store's range
     test goes, its slow path, and nothing goes between them or right behind them;
   - with the pairs taken out, and each distance over them, the sites and the body moved, the listing is that of `compile` as it stands in
     the commit: ORACLE's without `--wordtest`.

@@ -30,7 +30,7 @@ static const uint32_t distances[][3] = {
     {0xff000010, 0x54000000, 0x00ffffe0}, /* B.cond */
     {0x7e000000, 0x34000000, 0x00ffffe0}, /* CBZ, CBNZ */
     {0x7e000000, 0x36000000, 0x0007ffe0}, /* TBZ, TBNZ */
-    {0x9f000000, 0x10000000, 0x60ffffe0}, /* ADR */
+    {0xff000000, 0x10000000, 0x00ffffe0}, /* ADR of a multiple of 4 */
     {0xff000000, 0x58000000, 0x00ffffe0}, /* LDR (literal) */
 };
 
