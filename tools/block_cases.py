@@ -103,6 +103,13 @@ def cases(oracle, pairs):
     return [(*c, *n) for c, n in zip(found, needs(oracle, [c[1] for c in found]))]
 
 
+def listed(listing):
+    """Words, body and sites of a block's listing, the sites in the order of their lines."""
+    words = [int(w, 16) for line in listing[1:] if line[0] != "site" for w in line]
+    assert len(words) == int(listing[0][1])
+    return words, int(listing[0][3]), [(int(line[1]), int(line[2], 16)) for line in listing if line[0] == "site"]
+
+
 def case(lent, record, listing, need):
     """A case's bytes."""
     head = listing[0]
@@ -110,10 +117,8 @@ def case(lent, record, listing, need):
     if head[0] == "refused":
         fault = int(head[1]), int(head[2])
     else:
-        body = int(head[3])
-        words = [int(w, 16) for line in listing[1:] if line[0] != "site" for w in line]
-        sites = [(int(line[1]), int(line[2], 16)) for line in listing if line[0] == "site"]
-        assert len(words) == int(head[1]) and len(sites) <= 2
+        words, body, sites = listed(listing)
+        assert len(sites) <= 2
     if fault[0] == 10:
         assert need[:2] == (0, 0) and lent < need[2]
     else:

@@ -23,6 +23,7 @@ CLAIMS = (
     "demand/specs/Next.antt",
     "lowering/specs/Recency.antt",
     "lowering/specs/Commit.antt",
+    "answers/specs/Sites.antt",
 )
 
 # The crates of each group; a crate in none of them stands in the last.

@@ -132,26 +132,18 @@ def untested(words, body, sites):
     return (left, 4 * moved(body // 4), sites), len(pairs), next(filter(astray, pairs), None)
 
 
-def listed(listing):
-    """Words, body and sites of a listing, or its lines where it is a refusal."""
-    if listing[0][0] != "words":
-        return listing
-    words = [int(w, 16) for line in listing[1:] if line[0] != "site" for w in line]
-    return words, int(listing[0][3]), [(int(line[1]), line[2]) for line in listing if line[0] == "site"]
-
-
 def different(program, record, commit):
     """What is wrong with the program's words of a record that the commit accepts, or None; and the tested stores."""
     said = subprocess.run(program, input=record, capture_output=True, check=True).stdout.decode()
-    listing = listed([line.split() for line in said.splitlines()])
-    if not isinstance(listing, tuple):
+    listing = [line.split() for line in said.splitlines()]
+    if listing[0][0] != "words":
         return said.strip(), 0
-    left, tested, astray = untested(*listing)
+    left, tested, astray = untested(*block_cases.listed(listing))
     if tested != tested_stores(record):
         return f"{tested} stores are tested", tested
     if astray is not None:
         return f"the pair at word {astray}", tested
-    return None if left == listed(commit) else "other words", tested
+    return None if left == block_cases.listed(commit) else "other words", tested
 
 
 def main():

@@ -87,7 +87,19 @@ static uint8_t *next(FILE *file, frozen *c) {
     return bytes;
 }
 
-/* Whether a case's answer and every lent word are the frozen ones. */
+/* Whether an answer's sites stand by rising word position, inside the block. */
+static int rising(const werfund_answer *a) {
+    uint32_t next = 0;
+    for (size_t i = 0; i < a->sites; i++) {
+        if (a->site[i].at < next || a->site[i].at >= a->words) {
+            return 0;
+        }
+        next = a->site[i].at + 1;
+    }
+    return 1;
+}
+
+/* Whether a case's answer and every lent word are the frozen ones, the sites in order. */
 static int same(const frozen *c, uint64_t *table) {
     uint8_t *record = room(c->n[LENGTH]);
     uint32_t *words = lend(c->n[LENT]);
@@ -97,7 +109,8 @@ static int same(const frozen *c, uint64_t *table) {
     memcpy(record, c->record, c->n[LENGTH]);
     fault = werfund_translate_checked(record, c->n[LENGTH], words, c->n[LENT], table, &a);
     equal = fault == c->n[FAULT] && a.place == c->n[PLACE] && a.words == c->n[WORDS] && a.body == c->n[BODY] && a.sites == c->n[SITES] &&
-            a.site[0].at == c->n[AT0] && a.site[0].target == c->n[TARGET0] && a.site[1].at == c->n[AT1] && a.site[1].target == c->n[TARGET1];
+            a.site[0].at == c->n[AT0] && a.site[0].target == c->n[TARGET0] && a.site[1].at == c->n[AT1] && a.site[1].target == c->n[TARGET1] &&
+            rising(&a);
     for (size_t i = 0; equal && i < a.words; i++) {
         equal = words[i] == number(c->words + 4 * i);
     }
@@ -205,6 +218,29 @@ static void needs(void) {
     check(counts(empty_block, 76, WERFUND_CUT, 70, 0), "a cut record is fault 1 at 70, counted");
     check(counts(empty_block, 0, WERFUND_CUT, 0, 0), "an empty record is fault 1 at 0, counted");
     check(counts(NULL, 0, WERFUND_CUT, 0, 0), "an empty record at null is fault 1 at 0, counted");
+}
+
+/* Two sites: a BrI's, the address behind it first, wherever it jumps to (2026-05). */
+static void two_sites(void) {
+    static const uint32_t target[3] = {0x02000000, 0x02000002, 0x02000010};
+    for (size_t i = 0; i < 3; i++) {
+        static const uint8_t head[6] = {5, 19, 0, 30, 2, 0};
+        uint8_t record[77 + 22] = {0};
+        uint32_t words[64];
+        uint64_t cells[WERFUND_ANSWER];
+        werfund_answer a;
+        memcpy(record, empty_block, 77);
+        memcpy(record + 77, head, sizeof head);
+        for (size_t k = 0; k < 4; k++) {
+            record[sizeof record - 4 + k] = (uint8_t)(target[i] >> 8 * k);
+        }
+        check(werfund_translate_checked(record, sizeof record, words, 64, table, &a) == 0 && a.sites == 2, "a fork has two sites");
+        check(a.site[0].target == 0x02000002 && a.site[1].target == target[i], "the address behind is listed first");
+        check(rising(&a) && words[a.site[0].at] == 0x14000001 && words[a.site[1].at] == 0x14000001,
+              "by rising word position, each at its branch");
+        check(werfund_translate(record, sizeof record, words, 64, table, cells, WERFUND_ANSWER) == 0 && cells[4] < cells[6],
+              "in the cells too");
+    }
 }
 
 /* Groups: 32 BlockMoves of 16 loads each, for which 16,384 words are too few; a pair, also where RAM is shorter than it; and a kind that
@@ -472,6 +508,7 @@ int main(int argc, char **argv) {
     cases(argv[1], argc < 3 ? (unsigned long)-1 : strtoul(argv[2], NULL, 10));
     empty();
     needs();
+    two_sites();
     groups();
     layouts();
     texts();

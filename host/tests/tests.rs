@@ -90,12 +90,18 @@ fn parts(block: Block) -> (usize, usize, Vec<Site>) {
     (block.words, block.body, block.sites().to_vec())
 }
 
-/// Whether a case's answer and every lent word are the frozen ones.
+/// Whether a block's sites stand by rising word position, inside its words.
+fn rising(sites: &[Site], words: usize) -> bool {
+    sites.windows(2).all(|two| two[0].at < two[1].at) && sites.iter().all(|site| site.at < words)
+}
+
+/// Whether a case's answer and every lent word are the frozen ones, the sites in order.
 fn same(c: &Case, translator: &mut Translator) -> bool {
     let mut words = vec![BEFORE; c.lent];
     let answer = translator.translate(&c.record, &mut words).map(parts);
     let rest = if answer.is_ok() { BEFORE } else { 0 };
     answer == c.answer
+        && answer.map_or(true, |(words, _, sites)| rising(&sites, words))
         && words.len() >= c.words.len()
         && words[..c.words.len()] == c.words
         && words[c.words.len()..].iter().all(|w| *w == rest)
@@ -211,15 +217,36 @@ fn boundary(checks: &mut Checks) {
     }
 }
 
+/// The field of an operation of two bytes.
+fn operation(kind: u8, operands: &[u32]) -> Vec<u8> {
+    let numbers = operands.iter().flat_map(|n| n.to_le_bytes());
+    let head = [5, 3 + 4 * operands.len() as u8, 0, kind, 2, 0];
+    head.into_iter().chain(numbers).collect()
+}
+
+/// Two sites: a BrI's, the address behind it first, wherever it jumps to (2026-05).
+fn two_sites(checks: &mut Checks) {
+    let mut translator = Translator::new();
+    for target in [0x02000000, 0x02000002, 0x02000010] {
+        let mut record = block(0x02000000, 0);
+        record.extend(operation(30, &[0, 0, 0, target]));
+        let mut words = [BEFORE; 64];
+        let (_, _, sites) = parts(translator.translate(&record, &mut words).expect("a block"));
+        checks.check(
+            sites.iter().map(|site| site.target).eq([0x02000002, target]),
+            "the address behind is listed first",
+        );
+        checks.check(
+            rising(&sites, 64) && sites.iter().all(|site| words[site.at] == 0x14000001),
+            "by rising word position, each at its branch",
+        );
+    }
+}
+
 /// Groups: 32 BlockMoves of 16 loads each, for which 16,384 words are too few; a pair, also where RAM is shorter than it; and a kind that
 /// there is not.
 fn groups(checks: &mut Checks) {
     let mut translator = Translator::new();
-    let operation = |kind: u8, operands: &[u32]| {
-        let numbers = operands.iter().flat_map(|n| n.to_le_bytes());
-        let head = [5, 3 + 4 * operands.len() as u8, 0, kind, 2, 0];
-        head.into_iter().chain(numbers).collect::<Vec<u8>>()
-    };
     let mut record = block(0x02000000, 0);
     record.extend(operation(40, &[7, 0xffff, 0, 1, 0]).repeat(32));
     checks.check(
@@ -394,6 +421,7 @@ fn main() -> ExitCode {
         &mut checks,
     );
     boundary(&mut checks);
+    two_sites(&mut checks);
     groups(&mut checks);
     layouts(&mut checks);
     texts(&mut checks);

@@ -1,7 +1,8 @@
--- Document 01's whole listing, for every lent slice: 35 words, or 10; 35 are needed; and its walk over the patches.
-use mathlib.Core.Path.{_≡_, refl, ap, _∙_}
+-- Document 01's whole listing, for every lent slice: 35 words, or 10; 35 are needed; and its walk over the patches. And a block of two
+-- sites, listed in the other order.
+use mathlib.Core.Path.{_≡_, refl, sym, ap, _∙_}
 use mathlib.Core.Bool.{false}
-use mathlib.Core.List.{List, [], _∷_, _++_}
+use mathlib.Core.List.{List, [], _∷_, _++_, Perm·swap}
 use Prim.Native.Nat.{ℕ, _<_, _≤_, _/_, _%_}
 use lib.ListN.{length, drop, replicate}
 use Rattle.block.specs.declared.Block.{Block}
@@ -18,10 +19,14 @@ use Rattle.lowering.specs.Cache.{flushFrom, flush}
 use Rattle.lowering.specs.Steps.{opsSteps, blockSteps}
 use Rattle.lowering.specs.Fragments.{chain, exitImm, limit, stepCode, stepCache, stepsCode, opening, closing}
 use Rattle.lowering.specs.Compile.{blockWords, blockLines, blockCode, bodyOffset, sites, starts}
+use Rattle.lowering.specs.declared.Site.{Site}
+use Rattle.lowering.proofs.Example.{second, second-sites}
 use Rattle.finish.specs.Finish.{zeros}
 use Rattle.answers.specs.Translation.{accepted, refused, translation, lentAfter}
 use Rattle.answers.specs.WordsNeeded.{takes, needBehind, wordsNeeded}
+use Rattle.answers.specs.Sites.{ListedOnce, byPosition}
 use Rattle.answers.proofs.Cases.{Short, Fits, is-short, does-fit}
+use Rattle.answers.proofs.Sites.{in-order}
 
 -- four bytes, lowest first
 abbrev word : ℕ → List ℕ
@@ -118,3 +123,14 @@ unfolding
     index add halves padOf baseOf words lines instrs wholeLines poolIn findIn linesWords patchesOf linesAt unpatchedWords completedAt
     walkedWords
 walked-2 = ap (λ (r : Reading). walkedWords 2 (blockLines (r .block))) read-is
+
+-- ---- the block `second` of crates/lowering/proofs/Example.antt has two sites, whose targets fall where their positions rise. Exchanged, they
+-- are all that document 01 asked for; sorted by position they are the list of now.
+abbrev exchanged : List Site
+exchanged = record { at = 133; target = 0x02000200 } ∷ record { at = 121; target = 0x0200020e } ∷ []
+
+pub exchanged-listed : ListedOnce second exchanged
+exchanged-listed = in-order second .was-free exchanged (rw second-sites (Perm·swap _ _ []))
+
+pub exchanged-sorted : byPosition exchanged ≡ sites second
+exchanged-sorted = sym second-sites

@@ -1,5 +1,5 @@
--- WHAT A TRANSLATION PROMISES, from its definition: `translations`, and of the words where they stand that each site is listed once,
--- demand 3, and that they are the instructions meant: `promised`.
+-- WHAT A TRANSLATION PROMISES, from its definition: `translations`; and that the sites are listed once each, by rising position, demand 3 of
+-- the words where they stand, and that they are the instructions meant: `promised`.
 use mathlib.Core.Path.{_≡_, refl, sym, ap, subst, _∙_}
 use mathlib.Core.Bool.{true}
 use mathlib.Core.List.{List, [], _∷_, _++_}
@@ -12,46 +12,19 @@ use Rattle.record.specs.declared.Answer.the-variants.{Refused as Fault}
 use Rattle.record.specs.Record.{reading, readingFaults, among}
 use Rattle.record.proofs.Accepted.{Bytes, read-checked}
 use Rattle.record.proofs.Faults.{among-behind}
-use Rattle.code.specs.Items.{Rise}
-use Rattle.code.specs.Tree.{words}
-use Rattle.code.proofs.Order.{rise-below}
-use Rattle.code.proofs.Tree.{whole-size, whole-length}
-use Rattle.lowering.specs.Fragments.{closing}
-use Rattle.lowering.specs.Steps.{blockSteps}
 use Rattle.lowering.specs.declared.Site.{Site}
 use Rattle.lowering.proofs.Commit.{departs}
-use Rattle.lowering.specs.Compile.{blockCode, blockLines, blockWords, bodyOffset, starts, targets, zipSites, sites}
+use Rattle.lowering.specs.Compile.{blockWords, bodyOffset, sites}
 use Rattle.bounds.specs.Whole.{Emitted}
 use Rattle.bounds.proofs.Whole.{emitted}
-use Rattle.bounds.proofs.Sites.{sited}
 use Rattle.finish.specs.Finish.{zeros}
-use Rattle.execution.proofs.Steps.{lines-words}
 use Rattle.simulation.proofs.Demand.{demand-3}
 use Rattle.answers.specs.Translation.{Told, accepted, refused, translation, lentAfter}
-use Rattle.answers.specs.Contract.{positions, Sited, RunsAs, Runs, Meant}
+use Rattle.answers.specs.Contract.{Sited, RunsAs, Runs, Meant}
 use Rattle.answers.specs.Claims.{Translations}
 use Rattle.answers.proofs.Faults.{Early, early}
+use Rattle.answers.proofs.Sites.{in-order}
 use Rattle.answers.proofs.Cases.{Short, Fits, Ends, faulty, short, fits, fault-told, is-short, does-fit, ends}
-
--- ---- sites
-positions-zip : (ps ts : List ℕ) → length ps ≡ length ts → positions (zipSites ps ts) ≡ ps
-positions-zip [] ts e = refl
-positions-zip (p ∷ ps) [] e = absurd (omega arith)
-positions-zip (p ∷ ps) (t ∷ ts) e = ap (λ l. p ∷ l) (positions-zip ps ts (omega arith))
-
--- the closing words stand behind the code
-words-in : (b : Block) → words (blockCode b) + 7 ≤ length (blockWords b)
-unfolding blockWords blockLines closing
-words-in b = omega (arith, lines-words (blockLines b), whole-size (blockCode b) closing, whole-length (blockCode b) closing)
-
-pub some-words : (b : Block) → 0 < length (blockWords b)
-some-words b = omega (arith, words-in b)
-
-sites-rise : (b : Block) → Rise 0 (length (blockWords b)) (positions (sites b))
-unfolding sites
-sites-rise b =
-    rw (positions-zip (starts (blockCode b) 0) (targets (blockSteps b)) (sited b .all))
-    (rise-below 0 (words (blockCode b)) (length (blockWords b)) (starts (blockCode b) 0) (omega (arith, words-in b)) (sited b .rising))
 
 module _ (bytes lent : List ℕ) where
   abbrev b : Block
@@ -130,14 +103,14 @@ module _ (bytes lent : List ℕ) where
         accepted-beyond = words-beyond;
       }
 
-  -- ---- each site once
-  each-once : Sited (translation bytes lent)
-  each-once = by (ends bytes lent)
+  -- ---- each site once, by rising word position
+  pub sited-told : Sited (translation bytes lent) bytes
+  sited-told = by (ends bytes lent)
     where
-      by : Ends bytes lent → Sited (translation bytes lent)
+      by : Ends bytes lent → Sited (translation bytes lent) bytes
       by (faulty x) = rw (x .answer) tt
       by (short x) = rw (x .answer) tt
-      by (fits x) = rw (x .answer) (sites-rise b)
+      by (fits x) = rw (x .answer) (in-order b .rising, in-order b .listed-once)
 
   -- ---- DEMAND 3, and DEMAND 2 by the Arm manual, of an accepted record's words, where they stand
   demand-3-lent : Bytes bytes → Runs (translation bytes lent) bytes (lentAfter bytes lent)
@@ -164,8 +137,8 @@ module _ (bytes lent : List ℕ) where
 
 -- ---- of an answer and of lent words that are the definition's
 abbrev pub Promised : (bytes ws : List ℕ) → Told → Type 0
-Promised bytes ws t = Sited t × (Runs t bytes ws × Meant t bytes ws)
+Promised bytes ws t = Sited t bytes × (Runs t bytes ws × Meant t bytes ws)
 
 pub promised : (bytes lent ws : List ℕ) (t : Told) → Bytes bytes → t ≡ translation bytes lent → ws ≡ lentAfter bytes lent
     → Promised bytes ws t
-promised bytes lent ws t are e q = rw (e, q) (each-once bytes lent, (demand-3-lent bytes lent are, meant-lent bytes lent are))
+promised bytes lent ws t are e q = rw (e, q) (sited-told bytes lent, (demand-3-lent bytes lent are, meant-lent bytes lent are))

@@ -21,7 +21,7 @@ use Rattle.answers.specs.Translation.{toldBehind, translation}
 use Rattle.answers.specs.WordsNeeded.{needBehind, wordsNeeded, Exact, wordsCounted, Included}
 use Rattle.answers.proofs.Faults.{Early, early}
 use Rattle.answers.proofs.Cases.{is-short, does-fit}
-use Rattle.answers.proofs.Promises.{some-words}
+use Rattle.answers.proofs.Sites.{some-words}
 
 -- the instructions meant, the nop and the pool are all the words
 all-counted : (b : Block) → Checked b → length (blockWords b) ≡ wordsCounted b

@@ -1,11 +1,10 @@
 -- WHAT IS PROMISED of an answer and of the lent words behind it, besides that both are the definition's.
 use mathlib.Core.Path.{_≡_}
-use mathlib.Core.List.{List, [], _∷_}
+use mathlib.Core.List.{List}
 use Prim.Native.Nat.{ℕ}
 use lib.ListN.{length, take}
 use Rattle.block.specs.declared.Block.{Block}
 use Rattle.record.specs.Record.{reading}
-use Rattle.lowering.specs.declared.Site.{Site}
 use Rattle.code.specs.Items.{Rise}
 use Rattle.machine.specs.State.{State, xip}
 use Rattle.machine.specs.Memory.{bytesOf}
@@ -18,17 +17,13 @@ use Rattle.demand.specs.Premises.{Entry, PremisesOn}
 use Rattle.demand.specs.Claim.{Meets}
 use Rattle.bounds.specs.Whole.{Emitted}
 use Rattle.answers.specs.Translation.{Told, accepted, refused}
+use Rattle.answers.specs.Sites.{positions, ListedOnce}
 
--- the sites' word positions
-abbrev pub positions : List Site → List ℕ
-positions [] = []
-positions (s ∷ ss) = s .at ∷ positions ss
-
--- "each site is listed once": every site has its own word, one of the block's. Their order is free, as document 01 says; it is that of
--- emission.
-abbrev pub Sited : Told → Type 0
-Sited (accepted words body ss) = Rise 0 words (positions ss)
-Sited (refused number place) = Unit {0}
+-- "Sites are listed by rising word position": from the first word on, each behind the one before, all of them words of the block; and each
+-- site of the block once, nothing else. No other list meets it (Sites.antt `one-order`).
+abbrev pub Sited : Told → (bytes : List ℕ) → Type 0
+Sited (accepted words body ss) bytes = Rise 0 words (positions ss) × ListedOnce (reading bytes .block) ss
+Sited (refused number place) bytes = Unit {0}
 
 -- DEMAND 3 of these words: of every run of them on the Arm model, for this block, start and outside under the premises
 abbrev pub RunsAs : (ws : List ℕ) → Block → Type 0

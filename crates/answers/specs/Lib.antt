@@ -1,4 +1,5 @@
 pub mod Translation
+pub mod Sites
 pub mod Contract
 pub mod Claims
 pub mod WordsNeeded

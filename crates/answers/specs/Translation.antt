@@ -20,7 +20,7 @@ pub data Told : Type 0 where
   refused : (number place : ℕ) → Told
 
 -- ---- of the block read from a record of so many bytes
--- 10: "more words needed than lent", its place "the record's length". The sites stand in order of emission; document 01 leaves it free.
+-- 10: "more words needed than lent", its place "the record's length". The sites stand by rising word position (Sites.antt `InOrder`).
 unfoldable pub blockTold : (size : ℕ) → (lent : List ℕ) → Block → Told
 blockTold size lent b =
     pick (ltb (length lent) (length (blockWords b))) (refused 10 size) (accepted (length (blockWords b)) bodyOffset (sites b))

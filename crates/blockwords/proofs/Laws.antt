@@ -7,8 +7,9 @@ use Rattle.text.specs.Put.{rows, Placed}
 use Rattle.listing.specs.Listing.{counts, siteLine, siteIf, siteLines, accepted as acceptedText, refused as refusedText}
 use Rattle.lowering.specs.declared.Site.{Site}
 use Rattle.answers.specs.Translation.{accepted, translation, lentAfter}
+use Rattle.answers.specs.Contract.{Sited}
 use Rattle.answers.specs.Claims.{wordsOf}
-use Rattle.answers.proofs.Promises.{translations}
+use Rattle.answers.proofs.Promises.{translations, sited-told}
 use Rattle.translation.specs.declared.Sites.{Sites}
 use Rattle.translation.specs.declared.Sites.the-variants.{None, One, Two}
 use Rattle.translation.specs.declared.Translated.{Translated}
@@ -43,12 +44,14 @@ module _
     (bytes lent out ws last : List ℕ) (r : ℕ) (t : Translated)
     (is : told t ≡ translation bytes lent) (are : ws ≡ lentAfter bytes lent)
   where
+    -- the text of the answer, whose sites stand by rising position
     abbrev Text : Type 0
-    Text = Placed (textOf (translation bytes lent) (lentAfter bytes lent)) out 0 last r
+    Text = Placed (textOf (translation bytes lent) (lentAfter bytes lent)) out 0 last r × Sited (translation bytes lent) bytes
 
     pub refused-text : (number place : ℕ) → t ≡ Refused number place → Placed (refusedText number place) out 0 last r → Text
     unfolding textOf
-    refused-text number place e p = subst (λ a. Placed (textOf a (lentAfter bytes lent)) out 0 last r) (sym (ap told e) ∙ is) p
+    refused-text number place e p =
+        (subst (λ a. Placed (textOf a (lentAfter bytes lent)) out 0 last r) (sym (ap told e) ∙ is) p, sited-told bytes lent)
 
     module _ (n k body : ℕ) (ss : Sites) (e : t ≡ Accepted n body ss) (k-is : k ≡ min n (length ws)) where
       answer-is : accepted n body (listed ss) ≡ translation bytes lent
@@ -58,9 +61,11 @@ module _
           → Placed (acceptedText (take k ws) body c ps ts) out 0 last r → Text
       sites-text c ps ts lines p =
           let all : length (take n ws) ≡ n =
-          ap (λ l. length (take n l)) are ∙ all-there bytes lent n body (listed ss) (sym answer-is) in
-          subst (λ x. Placed x out 0 last r)
-          (listing-is n k body ws c ps ts (listed ss) all k-is lines ∙ ap₂ textOf answer-is are) p
+          ap (λ l. length (take n l)) are ∙ all-there bytes lent n body (listed ss) (sym answer-is) in (
+            subst (λ x. Placed x out 0 last r)
+                (listing-is n k body ws c ps ts (listed ss) all k-is lines ∙ ap₂ textOf answer-is are) p,
+            sited-told bytes lent,
+          )
 
       pub none-text : ss ≡ None → Placed (acceptedText (take k ws) body 0 (0 ∷ 0 ∷ []) (0 ∷ 0 ∷ [])) out 0 last r → Text
       unfolding siteLines siteIf siteText

@@ -7,12 +7,13 @@ use Rattle.listing.specs.Listing.{counts, siteLine, refused as refusedText}
 use Rattle.lowering.specs.declared.Site.{Site}
 use Rattle.answers.specs.Translation.{Told, accepted, refused, translation, lentAfter}
 
--- a line for each chain site
+-- a line for each chain site, in the order in which they are listed
 unfoldable pub siteText : List Site → List ℕ
 siteText [] = []
 siteText (s ∷ ss) = siteLine (s .at) (s .target) ++ siteText ss
 
--- an answer: the counts, the first words of those lent, as many as it says, five a line, and the sites; or a fault's number and place
+-- an answer: the counts, the first words of those lent, as many as it says, five a line, and the sites, by rising word position; or a
+-- fault's number and place
 unfoldable pub textOf : Told → (lent : List ℕ) → List ℕ
 textOf (accepted n body ss) lent = counts n body ++ (rows 0 (take n lent) ++ siteText ss)
 textOf (refused number place) lent = refusedText number place

@@ -1,6 +1,8 @@
 // Reads a block record from standard input, and writes its listing, or why it is refused: document 01, "A whole listing".
 ghost use Rattle.text.specs.Put.{Placed};
-ghost use Rattle.blockwords.specs.Text.{answerText};
+ghost use Rattle.answers.specs.Translation.{translation};
+ghost use Rattle.answers.specs.Contract.{Sited};
+ghost use Rattle.blockwords.specs.Text.{lent, answerText};
 use input::Whole;
 use libc::STDOUT_FILENO;
 use translation::Sites;
@@ -11,9 +13,10 @@ const LENT: usize = 16384;
 // Nine bytes a word, and the lines of the counts and of two sites.
 const ROOM: usize = 147584;
 
-// The listing of a record's words, or why it is refused.
+// The listing of a record's words, its sites by rising word position, or why it is refused.
 fn put_translation(out: &mut [u8], bytes: &[u8]) -> usize
     ensures { λ r. ⌜ Placed (answerText (now (bytes .entry))) (now (out .entry)) 0 (now (out .exit)) r ⌝ }
+    ensures { λ r. ⌜ Sited (translation (now (bytes .entry)) lent) (now (bytes .entry)) ⌝ }
 {
     let mut words = [0u32; LENT];
     let mut table = [0u64; 6152];

@@ -54,7 +54,7 @@ pub record Emitted (ws : List ℕ) (blk : Block) : Type 0 where
   -- so that the manual's decoding of the words gives the instructions back
   pub decoded : map decode (take (length (meant blk)) ws) ≡ map valid (meant blk)
 
--- "each site is listed once": the sites' positions rise, and each has its target. "A block has at most two sites."
+-- "Sites are listed by rising word position": each is listed once, and has its target. "A block has at most two sites."
 pub record Sited (blk : Block) : Type 0 where
   pub rising : Rise 0 (words (blockCode blk)) (starts (blockCode blk) 0)
   pub all : length (starts (blockCode blk) 0) ≡ length (targets (blockSteps blk))

@@ -92,7 +92,7 @@ first-sites = refl
 
 -- A signed halfword from RAM, flash or the helper, a glued break check, a halfword stored past the code map at an offset of two words, a branch with
 -- two chain sites, several changed slots at each. Behind an even length no nop.
-abbrev second : Block
+abbrev pub second : Block
 second =
     record {
       layout = layout;

@@ -58,6 +58,6 @@ zipSites [] ts = []
 zipSites (p ∷ ps) [] = []
 zipSites (p ∷ ps) (t ∷ ts) = record { at = p; target = t } ∷ zipSites ps ts
 
--- each site once, in order of emission
+-- each site once, by rising word position, which is the order of emission
 unfoldable pub sites : Block → List Site
 sites blk = zipSites (starts (blockCode blk) 0) (targets (blockSteps blk))

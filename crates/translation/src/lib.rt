@@ -13,7 +13,7 @@ use record::Answer;
 // Chained blocks enter behind the opening words; in bytes.
 const BODY: u32 = 52;
 
-// The chain sites of a block, at most two.
+// The chain sites of a block, at most two, by rising word position.
 pub enum Sites {
     None,
     One(Site),
@@ -32,7 +32,7 @@ pub enum Needed {
     Refused(u32, usize),
 }
 
-// The sites as they are told.
+// The sites as they are told, in the order in which they were emitted.
 fn listed_sites(s: lower::Sites) -> Sites
     ensures { λ r. ⌜ listed r ≡ zipSites (atsOf s) (targetsOf s) ⌝ }
 {
@@ -54,11 +54,12 @@ fn listed_sites(s: lower::Sites) -> Sites
     Sites::Two(first, second)
 }
 
-// The words of an accepted record's block, those beyond untouched; or the first fault, and every lent word 0.
+// The words of an accepted record's block, those beyond untouched, and its chain sites by rising word position, each once; or the first
+// fault, and every lent word 0.
 pub fn translate(bytes: &[u8], words: &mut [u32], table: &mut [u64; 6152]) -> Translated
     ensures { λ r. ⌜ told r ≡ translation (now (bytes .entry)) (now (words .entry)) ⌝ }
     ensures { λ r. ⌜ now (words .exit) ≡ lentAfter (now (bytes .entry)) (now (words .entry)) ⌝ }
-    ensures { λ r. ⌜ Sited (told r) ⌝ }
+    ensures { λ r. ⌜ Sited (told r) (now (bytes .entry)) ⌝ }
     ensures { λ r. ⌜ Runs (told r) (now (bytes .entry)) (now (words .exit)) ⌝ }
     ensures { λ r. ⌜ Meant (told r) (now (bytes .entry)) (now (words .exit)) ⌝ }
 {

@@ -84,8 +84,8 @@ fn put_cells(answer: &mut [u64], from: [u64; 8])
     }
 }
 
-// The fault's number, 0 where the record is accepted. `answer` gets place, words, body offset, sites, and the two sites. The table is
-// working room: what it holds, before and after, does not matter.
+// The fault's number, 0 where the record is accepted. `answer` gets place, words, body offset, sites, and the two sites, the one at the
+// lower word position first. The table is working room: what it holds, before and after, does not matter.
 #[no_mangle]
 pub extern "C" fn werfund_translate(
     bytes: &[u8],
@@ -96,7 +96,7 @@ pub extern "C" fn werfund_translate(
     ensures { λ r. ⌜ r ≡ numberOf (translation (now (bytes .entry)) (now (words .entry))) ⌝ }
     ensures { λ r. ⌜ now (answer .exit) ≡ lay (cellsOf (translation (now (bytes .entry)) (now (words .entry)))) (now (answer .entry)) ⌝ }
     ensures { λ r. ⌜ now (words .exit) ≡ lentAfter (now (bytes .entry)) (now (words .entry)) ⌝ }
-    ensures { λ r. ⌜ Sited (translation (now (bytes .entry)) (now (words .entry))) ⌝ }
+    ensures { λ r. ⌜ Sited (translation (now (bytes .entry)) (now (words .entry))) (now (bytes .entry)) ⌝ }
     ensures { λ r. ⌜ Runs (translation (now (bytes .entry)) (now (words .entry))) (now (bytes .entry)) (now (words .exit)) ⌝ }
     ensures { λ r. ⌜ Meant (translation (now (bytes .entry)) (now (words .entry))) (now (bytes .entry)) (now (words .exit)) ⌝ }
     ensures { λ r. ⌜ among r (0 ∷ 10 ∷ readingFaults) ≡ true ⌝ }

@@ -65,7 +65,7 @@ pub struct Block {
 }
 
 impl Block {
-    /// The chain sites, at most two, each listed once.
+    /// The chain sites, at most two, each listed once, by rising word position: `at` rises, and is below `words`.
     pub fn sites(&self) -> &[Site] {
         &self.sites[..self.count]
     }
