@@ -83,8 +83,8 @@ static inline const char *werfund_fault_text(uint32_t number) {
  *     2  the body's offset, in bytes
  *     3  the number of chain sites, 0 to 2
  *
- * Sites are listed by rising word position, each once: of two, cell 4 is below cell 6, and both are below cell 1. What there is not is 0:
- * place in an accepted block, the others in a refused record.
+ * Sites are listed by rising word position, each once: of two, cell 4 is below cell 6, both are below cell 1, and the first leads to the
+ * address behind the block. What there is not is 0: place in an accepted block, the others in a refused record.
  *
  * 28,124 words are enough for every block. The longest that is known takes 22,666, and of kinds 0 to 39 alone 3,250; werfund_words_needed
  * says how many a block takes.
@@ -113,8 +113,8 @@ typedef struct werfund_site {
     uint32_t target;
 } werfund_site;
 
-/* A block's counts and sites, or a fault's place; the rest is 0. Chained blocks enter `body` bytes behind the first word. The first `sites` of
- * `site` are the block's, each once, by rising `at`, which is below `words`. */
+/* A block's counts and sites, or a fault's place; the rest is 0. Chained blocks enter `body` bytes behind the first word. The first `sites`
+ * of `site` are the block's, each once, by rising `at`, which is below `words`; of two the first leads to the address behind the block. */
 typedef struct werfund_answer {
     size_t place;
     uint32_t words;

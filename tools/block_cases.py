@@ -25,6 +25,7 @@ import subprocess
 import sys
 from pathlib import Path
 
+TOP = Path(__file__).resolve().parent.parent
 LENT = 16384
 AT_ONCE = 1000  # cases
 
@@ -106,8 +107,9 @@ def cases(oracle, pairs):
 def listed(listing):
     """Words, body and sites of a block's listing, the sites in the order of their lines."""
     words = [int(w, 16) for line in listing[1:] if line[0] != "site" for w in line]
-    assert len(words) == int(listing[0][1])
-    return words, int(listing[0][3]), [(int(line[1]), int(line[2], 16)) for line in listing if line[0] == "site"]
+    sites = [(int(line[1]), int(line[2], 16)) for line in listing if line[0] == "site"]
+    assert len(words) == int(listing[0][1]) and len(sites) <= 2
+    return words, int(listing[0][3]), sites
 
 
 def case(lent, record, listing, need):
@@ -118,7 +120,6 @@ def case(lent, record, listing, need):
         fault = int(head[1]), int(head[2])
     else:
         words, body, sites = listed(listing)
-        assert len(sites) <= 2
     if fault[0] == 10:
         assert need[:2] == (0, 0) and lent < need[2]
     else:
@@ -136,6 +137,17 @@ def records(path):
         size, _, _, _, words, *_, length = struct.unpack_from("<15I", data, at)
         yield data[at + 60 : at + 60 + length], words
         at += 4 + size
+
+
+def frozen():
+    """The records of the frozen cases, each once."""
+    return list({record: None for record, _ in records(TOP / "crates/blockcases/stdin")})
+
+
+def answer(program, record):
+    """The lines of what a program like `blockwords` answers to a record."""
+    said = subprocess.run(program, input=record, capture_output=True, check=True).stdout.decode()
+    return [line.split() for line in said.splitlines()]
 
 
 def counts(found):

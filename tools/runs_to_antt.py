@@ -97,9 +97,9 @@ def request(q):
 
 
 def site(run, listing):
-    """The number of the chain site that the run leaves by, in order of position."""
+    """The number of the chain site that the run leaves by, as it is listed."""
     out = subprocess.run(shlex.split(listing), input=run.record, stdout=subprocess.PIPE, check=True).stdout.decode()
-    places = sorted(int(line.split()[1]) for line in out.splitlines() if line.startswith("site"))
+    places = [int(line.split()[1]) for line in out.splitlines() if line.startswith("site")]
     return places.index(run.site)
 
 

@@ -4,8 +4,8 @@
 
 ORACLE_DIR is tests/oracle, ORACLE the program that its build.py makes, and PROGRAM target/bin/blockwords or a command like it. The records
 are those of crates/blockcases/stdin, and those of ROWS; a block of two sites comes twice more, with the address behind it as its jump's
-target, so that both sites have one target, and with the target on the other side of that address. Of each that ORACLE accepts PROGRAM's
-listing is taken, and:
+target, so that both sites have one target, and with the address two bytes before or behind that one, where it jumped behind or before it.
+Of each that ORACLE accepts PROGRAM's listing is taken, and:
 
   - its last lines are those of the sites, at most two;
   - their positions rise, and at each stands the word that `link` replaces, a branch to the next word;
@@ -17,14 +17,11 @@ rise, none where they are equal, or none where they fall.
 import concurrent.futures
 import shlex
 import struct
-import subprocess
 import sys
 from pathlib import Path
 
 sys.dont_write_bytecode = True
 import block_cases
-
-TOP = Path(__file__).resolve().parent.parent
 
 # What draws the records, and the seed that stands for SEED.
 ROWS = (
@@ -52,17 +49,17 @@ def turned(blocks):
     for record, sites in blocks:
         if len(sites) == 2:
             (_, behind), (_, target) = sites
-            yield from (aimed(record, t) for t in (behind, 2 * behind - target))
+            yield from (aimed(record, t) for t in (behind, behind - 2 if target > behind else behind + 2))
 
 
 def different(program, record, sites):
     """What is wrong with the program's site lines, or None."""
-    said = subprocess.run(program, input=record, capture_output=True, check=True).stdout.decode()
-    listing = [line.split() for line in said.splitlines()]
+    listing = block_cases.answer(program, record)
     if listing[0][0] != "words":
-        return said.strip()
-    if any(line[0] == "site" for line in listing[: len(listing) - len(sites)]):
-        return "other lines behind a site's"
+        return " ".join(listing[0])
+    of_site = [line[0] == "site" for line in listing]
+    if of_site != sorted(of_site):
+        return "another line behind a site's"
     words, _, found = block_cases.listed(listing)
     positions = [at for at, _ in found]
     if any(p >= q for p, q in zip(positions, positions[1:])):
@@ -80,8 +77,7 @@ def order(sites):
 
 def sets(folder):
     """Name, seed and records of each row of the table."""
-    frozen = {record: None for record, _ in block_cases.records(TOP / "crates/blockcases/stdin")}
-    yield "the records of `blockcases`, each once", "", list(frozen)
+    yield "the records of `blockcases`, each once", "", block_cases.frozen()
     for command, seed in ROWS:
         yield f"`{command}`", seed, block_cases.draw(folder, command.replace("SEED", seed))
 
@@ -90,7 +86,7 @@ def main():
     if len(sys.argv) < 3:
         sys.exit(__doc__)
     folder, oracle, *given = sys.argv[1:]
-    program = shlex.split(given[0]) if given else [str(TOP / "target/bin/blockwords")]
+    program = shlex.split(given[0]) if given else [str(block_cases.TOP / "target/bin/blockwords")]
     oracle = [str(Path(oracle).resolve())] + block_cases.OPTIONS
     total = wrong = empty = 0
     for name, seed, records in sets(Path(folder)):

@@ -19,15 +19,12 @@ store.
 import bisect
 import concurrent.futures
 import shlex
-import subprocess
 import sys
 from pathlib import Path
 
 sys.dont_write_bytecode = True
 import block_cases
 from words_to_antt import DISTANCES
-
-TOP = Path(__file__).resolve().parent.parent
 
 # What draws the records, the seed that stands for SEED, and the map flag that the records are given.
 ROWS = (
@@ -81,11 +78,6 @@ def code_end(words):
     return end
 
 
-def frozen():
-    """The records of the frozen cases, each once."""
-    return list({record: None for record, _ in block_cases.records(TOP / "crates/blockcases/stdin")})
-
-
 def flagged(record, flag):
     """A record with this map flag, or as it is where it ends before the flag."""
     return record[:FLAG] + bytes([flag]) + record[FLAG + 1 :] if len(record) > FLAG else record
@@ -93,7 +85,7 @@ def flagged(record, flag):
 
 def sets(folder):
     """Name, seed, map flag and records of each row of the table."""
-    yield "the records of `blockcases`, each once", "", "0, 1", frozen()
+    yield "the records of `blockcases`, each once", "", "0, 1", block_cases.frozen()
     for command, seed, flag in ROWS:
         drawn = block_cases.draw(folder, command.replace("SEED", seed))
         yield f"`{command}`", seed, flag, [flagged(record, flag) for record in drawn]
@@ -134,10 +126,9 @@ def untested(words, body, sites):
 
 def different(program, record, commit):
     """What is wrong with the program's words of a record that the commit accepts, or None; and the tested stores."""
-    said = subprocess.run(program, input=record, capture_output=True, check=True).stdout.decode()
-    listing = [line.split() for line in said.splitlines()]
+    listing = block_cases.answer(program, record)
     if listing[0][0] != "words":
-        return said.strip(), 0
+        return " ".join(listing[0]), 0
     left, tested, astray = untested(*block_cases.listed(listing))
     if tested != tested_stores(record):
         return f"{tested} stores are tested", tested
@@ -150,7 +141,7 @@ def main():
     if len(sys.argv) < 3:
         sys.exit(__doc__)
     folder, oracle, *given = sys.argv[1:]
-    program = shlex.split(given[0]) if given else [str(TOP / "target/bin/blockwords")]
+    program = shlex.split(given[0]) if given else [str(block_cases.TOP / "target/bin/blockwords")]
     commit = [str(Path(oracle).resolve())] + [o for o in block_cases.OPTIONS if o != "--wordtest"]
     wrong = empty = 0
     for name, seed, flag, records in sets(Path(folder)):

@@ -5,7 +5,7 @@
 RECORDS is a file of records in the format of the oracle's vectors: a case begins with `> name words-lent record` (hexadecimal), and the
 lines up to the next `>` are its listing. OUT is the `proofs` folder of a crate that depends on record, lowering, code, block and arm; it
 gets `Words.antt` and `Lib.antt`. For each accepted record, of at most WORDS words, four equations say that the definitions give these
-very words and these very sites (by position), that the patches are where a word of the listing before the pool has a distance, by its
+very words and these very sites in this order, that the patches are where a word of the listing before the pool has a distance, by its
 opcode, and that behind half of them the words are the listing's with the distances of the others 0. LISTING is a command that prints a
 record's listing as the commit has it, without the tests of 2026-04: with it a fifth equation says that `commitWords` are its words. Each
 holds by computation, so that `rt check` of the crate compares every word.
@@ -80,7 +80,7 @@ def cases(path):
             found[-1][2].append(line.split())
     for name, record, listing in found:
         if listing and listing[0][0] == "words":
-            sites = sorted((int(line[1]), line[2]) for line in listing if line[0] == "site")
+            sites = [(int(line[1]), line[2]) for line in listing if line[0] == "site"]
             yield name, record, words_of(listing), sites
 
 

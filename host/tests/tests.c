@@ -89,12 +89,12 @@ static uint8_t *next(FILE *file, frozen *c) {
 
 /* Whether an answer's sites stand by rising word position, inside the block. */
 static int rising(const werfund_answer *a) {
-    uint32_t next = 0;
+    uint32_t from = 0;
     for (size_t i = 0; i < a->sites; i++) {
-        if (a->site[i].at < next || a->site[i].at >= a->words) {
+        if (a->site[i].at < from || a->site[i].at >= a->words) {
             return 0;
         }
-        next = a->site[i].at + 1;
+        from = a->site[i].at + 1;
     }
     return 1;
 }
@@ -109,8 +109,8 @@ static int same(const frozen *c, uint64_t *table) {
     memcpy(record, c->record, c->n[LENGTH]);
     fault = werfund_translate_checked(record, c->n[LENGTH], words, c->n[LENT], table, &a);
     equal = fault == c->n[FAULT] && a.place == c->n[PLACE] && a.words == c->n[WORDS] && a.body == c->n[BODY] && a.sites == c->n[SITES] &&
-            a.site[0].at == c->n[AT0] && a.site[0].target == c->n[TARGET0] && a.site[1].at == c->n[AT1] && a.site[1].target == c->n[TARGET1] &&
-            rising(&a);
+            a.site[0].at == c->n[AT0] && a.site[0].target == c->n[TARGET0] && a.site[1].at == c->n[AT1] &&
+            a.site[1].target == c->n[TARGET1] && rising(&a);
     for (size_t i = 0; equal && i < a.words; i++) {
         equal = words[i] == number(c->words + 4 * i);
     }

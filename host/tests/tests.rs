@@ -231,13 +231,14 @@ fn two_sites(checks: &mut Checks) {
         let mut record = block(0x02000000, 0);
         record.extend(operation(30, &[0, 0, 0, target]));
         let mut words = [BEFORE; 64];
-        let (_, _, sites) = parts(translator.translate(&record, &mut words).expect("a block"));
+        let (count, _, sites) = parts(translator.translate(&record, &mut words).expect("a block"));
+        let targets: Vec<u32> = sites.iter().map(|site| site.target).collect();
         checks.check(
-            sites.iter().map(|site| site.target).eq([0x02000002, target]),
+            targets == [0x02000002, target],
             "the address behind is listed first",
         );
         checks.check(
-            rising(&sites, 64) && sites.iter().all(|site| words[site.at] == 0x14000001),
+            rising(&sites, count) && sites.iter().all(|site| words[site.at] == 0x14000001),
             "by rising word position, each at its branch",
         );
     }

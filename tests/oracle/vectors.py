@@ -8,7 +8,7 @@
 
 make writes DIR/records.txt and DIR/encoders.txt. With --examples the named cases of document 01
 stand first. check runs COMMAND once for each record (standard input, as `blockwords`) and compares
-its output; the order of site lines is free. Cases lending other than 16,384 words are left out
+its output; the order of site lines counts only with --order. Cases lending other than 16,384 words are left out
 unless --lent is given: then `--lent N` is added to COMMAND. With --order the site lines must stand in the file's order,
 that of rising word positions (2026-05). check-enc feeds COMMAND all encoder
 lines at once (as `oracle --enc`).

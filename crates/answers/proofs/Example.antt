@@ -124,13 +124,13 @@ unfolding
     walkedWords
 walked-2 = ap (λ (r : Reading). walkedWords 2 (blockLines (r .block))) read-is
 
--- ---- the block `second` of crates/lowering/proofs/Example.antt has two sites, whose targets fall where their positions rise. Exchanged, they
--- are all that document 01 asked for; sorted by position they are the list of now.
+-- ---- the block `second` of crates/lowering/proofs/Example.antt has two sites, whose targets fall where their positions rise. Exchanged,
+-- they are what document 01 asked for; sorted by position they are `sites second`.
 abbrev exchanged : List Site
 exchanged = record { at = 133; target = 0x02000200 } ∷ record { at = 121; target = 0x0200020e } ∷ []
 
-pub exchanged-listed : ListedOnce second exchanged
-exchanged-listed = in-order second .was-free exchanged (rw second-sites (Perm·swap _ _ []))
+pub exchanged-listed : ListedOnce (sites second) exchanged
+exchanged-listed = in-order second .one-order .was-free exchanged (rw second-sites (Perm·swap _ _ []))
 
 pub exchanged-sorted : byPosition exchanged ≡ sites second
 exchanged-sorted = sym second-sites

@@ -1,9 +1,9 @@
--- WHAT A TRANSLATION PROMISES, from its definition: `translations`; and that the sites are listed once each, by rising position, demand 3 of
--- the words where they stand, and that they are the instructions meant: `promised`.
-use mathlib.Core.Path.{_≡_, refl, sym, ap, subst, _∙_}
+-- WHAT A TRANSLATION PROMISES, from its definition: `translations`; and `promised`: that the sites stand by rising position, each once, and
+-- of the words where they stand demand 3, and that they are the instructions meant.
+use mathlib.Core.Path.{_≡_, sym, ap, subst, _∙_}
 use mathlib.Core.Bool.{true}
-use mathlib.Core.List.{List, [], _∷_, _++_}
-use Prim.Native.Nat.{ℕ, _+_, _<_, _≤_}
+use mathlib.Core.List.{List, _∷_, _++_}
+use Prim.Native.Nat.{ℕ}
 use native.Mathlib.Omega.{arith}
 use lib.ListN.{length, take, drop}
 use lib.Seq.{take-append-seam, drop-append-seam}
@@ -110,7 +110,7 @@ module _ (bytes lent : List ℕ) where
       by : Ends bytes lent → Sited (translation bytes lent) bytes
       by (faulty x) = rw (x .answer) tt
       by (short x) = rw (x .answer) tt
-      by (fits x) = rw (x .answer) (in-order b .rising, in-order b .listed-once)
+      by (fits x) = rw (x .answer) (in-order b .rising, in-order b .one-order .listed-once)
 
   -- ---- DEMAND 3, and DEMAND 2 by the Arm manual, of an accepted record's words, where they stand
   demand-3-lent : Bytes bytes → Runs (translation bytes lent) bytes (lentAfter bytes lent)

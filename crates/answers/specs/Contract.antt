@@ -6,6 +6,7 @@ use lib.ListN.{length, take}
 use Rattle.block.specs.declared.Block.{Block}
 use Rattle.record.specs.Record.{reading}
 use Rattle.code.specs.Items.{Rise}
+use Rattle.lowering.specs.Compile.{sites}
 use Rattle.machine.specs.State.{State, xip}
 use Rattle.machine.specs.Memory.{bytesOf}
 use Rattle.machine.specs.Execute.{Helpers}
@@ -20,9 +21,9 @@ use Rattle.answers.specs.Translation.{Told, accepted, refused}
 use Rattle.answers.specs.Sites.{positions, ListedOnce}
 
 -- "Sites are listed by rising word position": from the first word on, each behind the one before, all of them words of the block; and each
--- site of the block once, nothing else. No other list meets it (Sites.antt `one-order`).
+-- site of the block once, nothing else. No other list meets it (Sites.antt `only-rising`).
 abbrev pub Sited : Told → (bytes : List ℕ) → Type 0
-Sited (accepted words body ss) bytes = Rise 0 words (positions ss) × ListedOnce (reading bytes .block) ss
+Sited (accepted words body ss) bytes = Rise 0 words (positions ss) × ListedOnce (sites (reading bytes .block)) ss
 Sited (refused number place) bytes = Unit {0}
 
 -- DEMAND 3 of these words: of every run of them on the Arm model, for this block, start and outside under the premises

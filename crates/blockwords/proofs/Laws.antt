@@ -44,11 +44,11 @@ module _
     (bytes lent out ws last : List ℕ) (r : ℕ) (t : Translated)
     (is : told t ≡ translation bytes lent) (are : ws ≡ lentAfter bytes lent)
   where
-    -- the text of the answer, whose sites stand by rising position
-    abbrev Text : Type 0
-    Text = Placed (textOf (translation bytes lent) (lentAfter bytes lent)) out 0 last r × Sited (translation bytes lent) bytes
+    -- the contract: the text of the answer, whose sites stand by rising position
+    abbrev Met : Type 0
+    Met = Placed (textOf (translation bytes lent) (lentAfter bytes lent)) out 0 last r × Sited (translation bytes lent) bytes
 
-    pub refused-text : (number place : ℕ) → t ≡ Refused number place → Placed (refusedText number place) out 0 last r → Text
+    pub refused-text : (number place : ℕ) → t ≡ Refused number place → Placed (refusedText number place) out 0 last r → Met
     unfolding textOf
     refused-text number place e p =
         (subst (λ a. Placed (textOf a (lentAfter bytes lent)) out 0 last r) (sym (ap told e) ∙ is) p, sited-told bytes lent)
@@ -58,7 +58,7 @@ module _
       answer-is = sym (ap told e) ∙ is
 
       sites-text : (c : ℕ) (ps ts : List ℕ) → siteLines c ps ts ≡ siteText (listed ss)
-          → Placed (acceptedText (take k ws) body c ps ts) out 0 last r → Text
+          → Placed (acceptedText (take k ws) body c ps ts) out 0 last r → Met
       sites-text c ps ts lines p =
           let all : length (take n ws) ≡ n =
           ap (λ l. length (take n l)) are ∙ all-there bytes lent n body (listed ss) (sym answer-is) in (
@@ -67,17 +67,17 @@ module _
             sited-told bytes lent,
           )
 
-      pub none-text : ss ≡ None → Placed (acceptedText (take k ws) body 0 (0 ∷ 0 ∷ []) (0 ∷ 0 ∷ [])) out 0 last r → Text
+      pub none-text : ss ≡ None → Placed (acceptedText (take k ws) body 0 (0 ∷ 0 ∷ []) (0 ∷ 0 ∷ [])) out 0 last r → Met
       unfolding siteLines siteIf siteText
       none-text q p = sites-text 0 (0 ∷ 0 ∷ []) (0 ∷ 0 ∷ []) (rw q) p
 
       pub one-text : (s : Site) → ss ≡ One s
-          → Placed (acceptedText (take k ws) body 1 (s .at ∷ 0 ∷ []) (s .target ∷ 0 ∷ [])) out 0 last r → Text
+          → Placed (acceptedText (take k ws) body 1 (s .at ∷ 0 ∷ []) (s .target ∷ 0 ∷ [])) out 0 last r → Met
       unfolding siteLines siteIf siteText
       one-text s q p = sites-text 1 (s .at ∷ 0 ∷ []) (s .target ∷ 0 ∷ []) (rw q) p
 
       pub two-text : (s u : Site) → ss ≡ Two s u
-          → Placed (acceptedText (take k ws) body 2 (s .at ∷ u .at ∷ []) (s .target ∷ u .target ∷ [])) out 0 last r → Text
+          → Placed (acceptedText (take k ws) body 2 (s .at ∷ u .at ∷ []) (s .target ∷ u .target ∷ [])) out 0 last r → Met
       unfolding siteLines siteIf siteText
       two-text s u q p =
           sites-text 2 (s .at ∷ u .at ∷ []) (s .target ∷ u .target ∷ [])

@@ -12,8 +12,8 @@ unfoldable pub siteText : List Site → List ℕ
 siteText [] = []
 siteText (s ∷ ss) = siteLine (s .at) (s .target) ++ siteText ss
 
--- an answer: the counts, the first words of those lent, as many as it says, five a line, and the sites, by rising word position; or a
--- fault's number and place
+-- an answer: the counts, the first words of those lent, as many as it says, five a line, and the sites as they are listed, by rising
+-- word position (`Sited`); or a fault's number and place
 unfoldable pub textOf : Told → (lent : List ℕ) → List ℕ
 textOf (accepted n body ss) lent = counts n body ++ (rows 0 (take n lent) ++ siteText ss)
 textOf (refused number place) lent = refusedText number place

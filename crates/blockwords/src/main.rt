@@ -13,7 +13,8 @@ const LENT: usize = 16384;
 // Nine bytes a word, and the lines of the counts and of two sites.
 const ROOM: usize = 147584;
 
-// The listing of a record's words, its sites by rising word position, or why it is refused.
+// The listing of a record's words, its sites by rising word position (the second clause, of the answer that is listed), or why it is
+// refused.
 fn put_translation(out: &mut [u8], bytes: &[u8]) -> usize
     ensures { λ r. ⌜ Placed (answerText (now (bytes .entry))) (now (out .entry)) 0 (now (out .exit)) r ⌝ }
     ensures { λ r. ⌜ Sited (translation (now (bytes .entry)) lent) (now (bytes .entry)) ⌝ }

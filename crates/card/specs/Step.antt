@@ -14,8 +14,8 @@ use Rattle.card.specs.Word.{plus, minus, bit, shl, sar, alu, ext, holds,
 use Rattle.card.specs.Card.{Card, reg, baseOf, rhs, setReg, setSp, setRets, arrive, addReg, addSp}
 use Rattle.card.specs.Memory.{Access, got, unmet, load, store}
 
--- How a block leaves: by the return; by a chain site, counted in the order in which `emit_op` makes them; by the jump table, which
--- is a jump where the table has the pc's body and the return where it has not.
+-- How a block leaves: by the return; by a chain site, counted in the order in which `emit_op` makes them, and in which they are listed; by
+-- the jump table, which is a jump where the table has the pc's body and the return where it has not.
 pub data Way : Type 0 where
   exits : Way
   chains : (site : ℕ) → Way

@@ -69,7 +69,7 @@ pub struct Chained {
     pub at: u32,
 }
 
-// The same of two sites, in order.
+// The same of two sites, that of the address behind first.
 pub struct Forked {
     pub a: Asm,
     pub at: u32,

@@ -21,7 +21,7 @@ unfoldable pub siteIf : Bool → (position target : ℕ) → List ℕ
 siteIf true position target = siteLine position target
 siteIf false position target = []
 
--- a line for each of at most two sites
+-- a line for each of at most two sites, in the order given
 unfoldable pub siteLines : ℕ → (positions targets : List ℕ) → List ℕ
 siteLines n positions targets =
     siteIf (ltb 0 n) (getD positions 0 0) (getD targets 0 0) ++ siteIf (ltb 1 n) (getD positions 1 0) (getD targets 1 0)

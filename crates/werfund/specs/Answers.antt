@@ -13,7 +13,7 @@ abbrev pub numberOf : Told → ℕ
 numberOf (accepted words body ss) = 0
 numberOf (refused number place) = number
 
--- word position and guest target of each site, as they are listed: by rising position
+-- word position and guest target of each site, as they are listed (by rising position: `Sited`)
 abbrev pub siteCells : List Site → List ℕ
 siteCells [] = []
 siteCells (s ∷ ss) = s .at ∷ s .target ∷ siteCells ss

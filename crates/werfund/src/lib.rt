@@ -85,7 +85,8 @@ fn put_cells(answer: &mut [u64], from: [u64; 8])
 }
 
 // The fault's number, 0 where the record is accepted. `answer` gets place, words, body offset, sites, and the two sites, the one at the
-// lower word position first. The table is working room: what it holds, before and after, does not matter.
+// lower word position first (the fourth clause, of the answer that the cells tell). The table is working room: what it holds, before and
+// after, does not matter.
 #[no_mangle]
 pub extern "C" fn werfund_translate(
     bytes: &[u8],

@@ -65,7 +65,8 @@ pub struct Block {
 }
 
 impl Block {
-    /// The chain sites, at most two, each listed once, by rising word position: `at` rises, and is below `words`.
+    /// The chain sites, at most two, each listed once, by rising word position: `at` rises, and is below `words`. Of two the first leads to
+    /// the address behind the block.
     pub fn sites(&self) -> &[Site] {
         &self.sites[..self.count]
     }
