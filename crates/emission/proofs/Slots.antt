@@ -27,17 +27,17 @@ unfolding emitted runT putT
 ins-by i w s s₁ p e = p ∙ ap (λ k. word k s) e
 
 -- ---- one slot
-pub slot-kept : (lay : Layout) (h g : ℕ) (d : Bool) (s : State) → d ≡ false → s ≡ emitted (flushed lay h g d) s
+slot-kept : (lay : Layout) (h g : ℕ) (d : Bool) (s : State) → d ≡ false → s ≡ emitted (flushed lay h g d) s
 unfolding emitted runT
 slot-kept lay h g d s e = rw e
 
-pub slot-free : (lay : Layout) (h g : ℕ) (d : Bool) (s : State) → d ≡ true → g ≡ FREE → s ≡ emitted (flushed lay h g d) s
+pub slot-free : (lay : Layout) (h g : ℕ) (s : State) → g ≡ FREE → s ≡ emitted (flushed lay h g true) s
 unfolding emitted runT
-slot-free lay h g d s e f = rw (e, eq-eqb g FREE f)
+slot-free lay h g s f = rw (eq-eqb g FREE f)
 
-pub slot-stored : (lay : Layout) (h g : ℕ) (d : Bool) (s s₁ : State) (k : ℕ) → d ≡ true → (g ≡ FREE → ⊥) → k ≡ offReg lay g / 4 → s₁ ≡ emitted (MemoryImm StrW k CPU h ∷ []) s → s₁ ≡ emitted (flushed lay h g d) s
+pub slot-stored : (lay : Layout) (h g : ℕ) (s s₁ : State) (k : ℕ) → (g ≡ FREE → ⊥) → k ≡ offReg lay g / 4 → s₁ ≡ emitted (MemoryImm StrW k CPU h ∷ []) s → s₁ ≡ emitted (flushed lay h g true) s
 unfolding emitted runT
-slot-stored lay h g d s s₁ k e n o p = rw (e, ne-eqb g FREE n) (p ∙ ap (λ j. emitted (MemoryImm StrW j CPU h ∷ []) s) o)
+slot-stored lay h g s s₁ k n o p = rw (ne-eqb g FREE n) (p ∙ ap (λ j. emitted (MemoryImm StrW j CPU h ∷ []) s) o)
 
 -- ---- all slots
 run-pick : (lay : Layout) (h g : ℕ) (is : List Instr) (u : Bool) (s : State)
@@ -51,7 +51,7 @@ abbrev pub left : Layout → List ℕ → List Bool → ℕ → List Instr
 left lay gs ds i = flushFrom lay (drop i POOL) (drop i gs) (drop i ds)
 
 module _ (lay : Layout) (gs : List ℕ) (ds : List Bool) (a : length gs ≡ 8) (b : length ds ≡ 8) where
-  pub one-more : (i h : ℕ) (s₀ s s₁ : State) → i < 8 → h ≡ host i → emitted (left lay gs ds 0) s₀ ≡ emitted (left lay gs ds i) s
+  one-more : (i h : ℕ) (s₀ s s₁ : State) → i < 8 → h ≡ host i → emitted (left lay gs ds 0) s₀ ≡ emitted (left lay gs ds i) s
       → s₁ ≡ emitted (flushed lay h (getD gs i 0) (getD ds i false)) s → emitted (left lay gs ds 0) s₀ ≡ emitted (left lay gs ds (i + 1)) s₁
   unfolding flushFrom
   one-more i h s₀ s s₁ l o e p =
@@ -59,6 +59,14 @@ module _ (lay : Layout) (gs : List ℕ) (ds : List Bool) (a : length gs ≡ 8) (
       ∙ rw (drop-cons POOL i 0 l, drop-cons gs i 0 (omega arith), drop-cons ds i false (omega arith))
       (run-pick lay (host i) (getD gs i 0) (flushFrom lay (drop (suc i) POOL) (drop (suc i) gs) (drop (suc i) ds)) (getD ds i false && not (eqb (getD gs i 0) FREE)) s
       ∙ rw add-one (ap (emitted (flushFrom lay (drop (suc i) POOL) (drop (suc i) gs) (drop (suc i) ds))) (sym (p ∙ ap (λ k. emitted (flushed lay k (getD gs i 0) (getD ds i false)) s) o))))
+
+  pub one-stored : (i h : ℕ) (s₀ s s₁ : State) → i < 8 → h ≡ host i → getD ds i false ≡ true → emitted (left lay gs ds 0) s₀ ≡ emitted (left lay gs ds i) s
+      → s₁ ≡ emitted (flushed lay h (getD gs i 0) true) s → emitted (left lay gs ds 0) s₀ ≡ emitted (left lay gs ds (i + 1)) s₁
+  one-stored i h s₀ s s₁ l o d e p = one-more i h s₀ s s₁ l o e (p ∙ ap (λ u. emitted (flushed lay h (getD gs i 0) u) s) (sym d))
+
+  pub one-kept : (i : ℕ) (s₀ s : State) → i < 8 → getD ds i false ≡ false → emitted (left lay gs ds 0) s₀ ≡ emitted (left lay gs ds i) s
+      → emitted (left lay gs ds 0) s₀ ≡ emitted (left lay gs ds (i + 1)) s
+  one-kept i s₀ s l d e = one-more i (host i) s₀ s s l refl e (slot-kept lay (host i) (getD gs i 0) (getD ds i false) s d)
 
   pub all-done : (i : ℕ) (s₀ s : State) → 8 ≤ i → emitted (left lay gs ds 0) s₀ ≡ emitted (left lay gs ds i) s → s ≡ emitted (left lay gs ds 0) s₀
   unfolding flushFrom emitted runT

@@ -1,5 +1,6 @@
 // Emitting: instructions through their words, guest registers through the cache, and the cache's flush and reload.
 ghost use mathlib.Core.Path.{_≡_};
+ghost use mathlib.Core.Bool.{true};
 ghost use mathlib.Core.List.{List, [], _∷_};
 ghost use Prim.Native.Nat.{ℕ, _+_, _<_, _≤_};
 ghost use Rattle.arm.specs.declared.Instr.{Instr};
@@ -96,22 +97,12 @@ pub fn cmp(out: &mut [u32], tab: &mut [u64; 6152], a: Asm, rn: u32, rm: u32) -> 
     )
 }
 
-// What host register h holds is stored, if it is changed and a guest register.
-fn flush_slot(
-    out: &mut [u32],
-    tab: &mut [u64; 6152],
-    a: Asm,
-    lay: Layout,
-    h: u32,
-    g: u8,
-    d: bool,
-) -> Asm
-    ensures { λ r. ⌜ state (now (out .exit)) (now (tab .exit)) r ≡ emitted (flushed lay h g d) (state (now (out .entry)) (now (tab .entry)) a) ⌝ }
+// What host register h holds is stored, if it is a guest register.
+fn flush_slot(out: &mut [u32], tab: &mut [u64; 6152], a: Asm, lay: Layout, h: u32, g: u8) -> Asm
+    ensures { λ r. ⌜ state (now (out .exit)) (now (tab .exit)) r ≡ emitted (flushed lay h g true) (state (now (out .entry)) (now (tab .entry)) a) ⌝ }
 {
-    if d {
-        if g != 16 {
-            return ins(out, tab, a, cache::str(h, cache::off_reg(lay, g)));
-        }
+    if g != 16 {
+        return ins(out, tab, a, cache::str(h, cache::off_reg(lay, g)));
     }
     a
 }
@@ -125,7 +116,9 @@ pub fn flush(out: &mut [u32], tab: &mut [u64; 6152], a: Asm, lay: Layout, rc: Re
     let mut q = a;
     let mut i: usize = 0;
     while i < 8 {
-        q = flush_slot(out, tab, q, lay, cache::host(i), guest[i], dirty[i]);
+        if dirty[i] {
+            q = flush_slot(out, tab, q, lay, cache::host(i), guest[i]);
+        }
         i += 1;
     }
     q

@@ -15,6 +15,7 @@ use Rattle.code.specs.declared.Fix.{Fix}
 use Rattle.code.specs.declared.Fix.the-variants.{B26, B19, B14, Adr21}
 use Rattle.code.proofs.Reach.{halves-length}
 use Rattle.asm.specs.declared.Reference.{Reference}
+use Rattle.asm.specs.declared.Reference.the-variants.{ToPool}
 use Rattle.asm.specs.State.{fixupRoom, literalsAt, fixupsAt, refOf, State, atMost, kept, held, literalsFrom}
 use Rattle.finish.specs.Finish.{fieldOf, patchIn, fieldIn, leadIn, patchedWith, patchedCell, patchedAt, patchedTo}
 use Rattle.finish.specs.Finish.{write, zeros, written, needed, beforeWalk, walkedTo, finished, finishedWords}
@@ -46,13 +47,18 @@ pub patch-adr21 : (f : Fix) (t h r : ℕ) (z : ℤ) → z ≡ dist (4 * t) (4 * 
 unfolding patchIn
 patch-adr21 f t h r z d e q = rw e (ap (λ n. n % 4 * 536870912 + n / 4 * 32) (q ∙ ap (fieldOf 1048576) (d ∙ bytes-dist t h)))
 
+pub patch-pool : (t : List ℕ) (base i here r : ℕ) (to : Reference) (z : ℤ) → to ≡ ToPool i → z ≡ dist (base + 2 * i) here → r ≡ fieldOf 262144 z
+    → r * 32 ≡ patchIn (fieldIn to) (dist (leadIn t base to) here)
+unfolding leadIn
+patch-pool t base i here r to z e d q = rw e (patch-b19 B19 (base + 2 * i) here r z d refl q)
+
 -- ---- one fix-up from its number, and one more of them
-pub patched-is : (t ws ws′ : List ℕ) (base n at low there f : ℕ) (r : Reference) (k : Fix)
-    → at ≡ getD t (fixupsAt + n) 0 / 2 ^ 32 → low ≡ getD t (fixupsAt + n) 0 % 2 ^ 32 → r ≡ refOf low → there ≡ leadIn t base r
-    → k ≡ fieldIn r → f ≡ patchIn k (dist there at) → ws′ ≡ set ws at ((getD ws at 0 + f) % 2 ^ 32) → ws′ ≡ patchedAt t base n ws
+pub patched-is : (t ws ws′ : List ℕ) (base n at low f : ℕ) (r : Reference)
+    → at ≡ getD t (fixupsAt + n) 0 / 2 ^ 32 → low ≡ getD t (fixupsAt + n) 0 % 2 ^ 32 → r ≡ refOf low
+    → f ≡ patchIn (fieldIn r) (dist (leadIn t base r) at) → ws′ ≡ set ws at ((getD ws at 0 + f) % 2 ^ 32) → ws′ ≡ patchedAt t base n ws
 unfolding patchedAt patchedCell patchedWith
-patched-is t ws ws′ base n at low there f r k a l e p j q s =
-    rw (← a, ← l, ← e, ← p, ← j, ← q) s
+patched-is t ws ws′ base n at low f r a l e q s =
+    rw (← a, ← l, ← e, ← q) s
 
 pub patched-more : (t ws ws′ ws″ : List ℕ) (base n : ℕ) → ws′ ≡ patchedTo t base n ws → ws″ ≡ patchedAt t base n ws′ → ws″ ≡ patchedTo t base (n + 1) ws
 unfolding patchedTo

@@ -77,23 +77,6 @@ fn field(half: u32, distance: i64) -> u32
     distance as u32
 }
 
-// What is added to a word for its distance in words; the distance of `adr` is in bytes, its two lowest bits apart.
-fn patch(f: Fix, there: u64, here: u32) -> u32
-    requires { ⌜ there < 2 ^ 34 ⌝ }
-    ensures { λ r. ⌜ r ≡ patchIn f (dist there here) ⌝ }
-{
-    let h = here as u64;
-    match f {
-        Fix::B26 => field(HALF26, distance(there, h)),
-        Fix::B19 => field(HALF19, distance(there, h)) * 32,
-        Fix::B14 => field(HALF14, distance(there, h)) * 32,
-        Fix::Adr21 => {
-            let bytes = field(HALF21, distance(4 * there, 4 * h));
-            bytes % 4 * 536870912 + bytes / 4 * 32
-        }
-    }
-}
-
 // Where a label stands.
 fn label_at(tab: &[u64; asm::TABLE], l: Label) -> u64
     ensures { λ r. ⌜ (r ≡ labelIn (now (tab .entry)) (l .0)) × (r < 2 ^ 32) ⌝ }
@@ -105,23 +88,32 @@ fn label_at(tab: &[u64; asm::TABLE], l: Label) -> u64
     0
 }
 
-// Where a reference leads: to a label, or to a literal of the pool.
-fn target(tab: &[u64; asm::TABLE], base: u32, to: Reference) -> u64
-    ensures { λ r. ⌜ (r ≡ leadIn (now (tab .entry)) base to) × (r < 2 ^ 34) ⌝ }
+// What is added to a word for its distance to a label, in words; the distance of `adr` is in bytes, its two lowest bits apart.
+fn label_patch(tab: &[u64; asm::TABLE], f: Fix, l: Label, here: u32) -> u32
+    ensures { λ r. ⌜ r ≡ patchIn f (dist (labelIn (now (tab .entry)) (l .0)) here) ⌝ }
 {
-    match to {
-        Reference::ToLabel(l, _) => label_at(tab, l),
-        Reference::ToPool(i) => (base as u64) + 2 * (i as u64),
+    let h = here as u64;
+    match f {
+        Fix::B26 => field(HALF26, distance(label_at(tab, l), h)),
+        Fix::B19 => field(HALF19, distance(label_at(tab, l), h)) * 32,
+        Fix::B14 => field(HALF14, distance(label_at(tab, l), h)) * 32,
+        Fix::Adr21 => {
+            let bytes = field(HALF21, distance(4 * label_at(tab, l), 4 * h));
+            bytes % 4 * 536870912 + bytes / 4 * 32
+        }
     }
 }
 
-// The field of a reference's distance.
-fn field_of(to: Reference) -> Fix
-    ensures { λ r. ⌜ r ≡ fieldIn to ⌝ }
+// The same to where a reference leads: to a label, or to a literal of the pool.
+fn patch(tab: &[u64; asm::TABLE], base: u32, to: Reference, here: u32) -> u32
+    ensures { λ r. ⌜ r ≡ patchIn (fieldIn to) (dist (leadIn (now (tab .entry)) base to) here) ⌝ }
 {
     match to {
-        Reference::ToLabel(_, f) => f,
-        Reference::ToPool(_) => Fix::B19,
+        Reference::ToLabel(l, f) => label_patch(tab, f, l, here),
+        Reference::ToPool(i) => {
+            let there = (base as u64) + 2 * (i as u64);
+            field(HALF19, distance(there, here as u64)) * 32
+        }
     }
 }
 
@@ -143,8 +135,7 @@ fn patch_one(words: &mut [u32], tab: &[u64; asm::TABLE], base: u32, n: u32)
     let e = tab[asm::FIXUPS_AT + (n as usize)];
     let at = high(e);
     let to = asm::ref_of(low(e));
-    let there = target(tab, base, to);
-    let f = patch(field_of(to), there, at);
+    let f = patch(tab, base, to, at);
     patch_at(words, at, f);
 }
 

@@ -1,38 +1,20 @@
--- The field of each kind.
+-- To a label, or to a literal.
 use borrow.Author.Needs.{needs}
 use mathlib.Core.Path.{_∙_}
+use Rattle.finish.specs.Finish.{leadIn}
 use Rattle.finish.proofs.Signed.{as-is}
-use Rattle.finish.proofs.Cases.{patch-b26, patch-b19, patch-b14, patch-adr21}
+use Rattle.finish.proofs.Cases.{patch-pool}
 use Rattle.finish.proofs.patch.Statement.{statement}
 use Rattle.finish.proofs.patch.Tie as tie
 
 returns : tie.Need-returns
-returns c =
-    let a : tie.Start = c .before .before .before .before in
-    let d = c .before .distance .ensures in
-    patch-b26 _ (a .args .there) (a .args .here) _ _ (as-is _ (d .1) ∙ d .0)
-    (c .before .before .enum-told .given .1) (c .field .ensures .0)
+unfolding leadIn
+returns c = rw (c .before .before .to .given .1) (c .label-patch .ensures)
 
 returns-2 : tie.Need-returns-2
 returns-2 c =
-    let a : tie.Start = c .before .before .before .before in
-    let d = c .before .distance2 .ensures in
-    patch-b19 _ (a .args .there) (a .args .here) _ _ (as-is _ (d .1) ∙ d .0)
-    (c .before .before .enum-told2 .given .1) (c .field2 .ensures .0)
-
-returns-3 : tie.Need-returns-3
-returns-3 c =
-    let a : tie.Start = c .before .before .before .before in
-    let d = c .before .distance3 .ensures in
-    patch-b14 _ (a .args .there) (a .args .here) _ _ (as-is _ (d .1) ∙ d .0)
-    (c .before .before .enum-told3 .given .1) (c .field3 .ensures .0)
-
-returns-4 : tie.Need-returns-4
-returns-4 c =
-    let a : tie.Start = c .before .before .before .before in
-    let d = c .before .distance4 .ensures in
-    patch-adr21 _ (a .args .there) (a .args .here) _ _ (as-is _ (d .1) ∙ d .0)
-    (c .before .before .enum-told4 .given .1) (c .field4 .ensures .0)
+    let d = c .before .distance .ensures in
+    patch-pool _ _ _ _ _ _ _ (c .before .before .before .to2 .given .1) (as-is _ (d .1) ∙ d .0) (c .field .ensures .0)
 
 pub patch-spec : {M : Type 1} → statement M
 patch-spec =
@@ -40,24 +22,12 @@ patch-spec =
     (tie.spec
     (λ c. search needs)
     (λ c κs. search needs)
-    (λ c κs. search needs)
-    (λ c. search needs)
-    (λ c κs. search needs)
-    (λ c κs. search needs)
-    (λ c. search needs)
-    (λ c. search needs)
-    (λ c κs. search needs)
-    (λ c κs. search needs)
     (λ c. search needs)
     (λ c. search needs)
     (λ c. search needs)
     (λ c. search needs)
     (λ c κs. search needs)
     (λ c κs. search needs)
-    (λ c. search needs)
-    (λ c. search needs)
     (λ c. search needs)
     returns
-    returns-2
-    returns-3
-    returns-4)
+    returns-2)
