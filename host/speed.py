@@ -22,11 +22,10 @@ import tempfile
 sys.dont_write_bytecode = True
 TOP = os.path.dirname(os.path.dirname(os.path.abspath(__file__)))
 sys.path.insert(0, os.path.join(TOP, "tools"))
-from block_cases import OPTIONS, records as case_records
+from block_cases import OPTIONS, first, in_ram, operations, records as case_records
 
 LIBRARY = os.path.join(TOP, "target/staticlib/libwerfund.a")
 SPEED = os.path.join(TOP, "target/host/speed")
-HEAD = 77
 LENT = 32768  # more than any block takes
 BASE = 39  # the last kind of document 01
 
@@ -39,26 +38,16 @@ def run(command, lines=()):
 # ---- records
 
 
-def fields(record):
-    """The fields of a record, from the first operation on."""
-    at, found = HEAD, []
-    while at < len(record):
-        end = at + 3 + record[at + 1] + 256 * record[at + 2]
-        found.append(record[at:end])
-        at = end
-    return found
-
-
 def cut(records, n):
     """The records, cut behind so many operations, a line each."""
-    return [(r[:HEAD] + b"".join(fields(r)[:n])).hex() for r in records]
+    return [(r[: first(r)] + b"".join(list(operations(r))[:n])).hex() for r in records]
 
 
 def longest(last):
     """Of the frozen cases whose kinds are at most `last`, the record whose block has most words, and their number."""
     best = 0, b""
     for record, words in case_records(os.path.join(TOP, "crates/blockcases/stdin")):
-        if best[0] < words and all(f[3] <= last for f in fields(record)):
+        if best[0] < words and all(f[3] <= last for f in operations(record)):
             best = words, record
     return best[1], best[0]
 
@@ -227,12 +216,13 @@ def main():
         return run([sys.executable, os.path.join(directory, "blocks.py"), "speed", "1000", *options]).stdout.split()
 
     last = int(OPTIONS[OPTIONS.index("--kinds") + 1])
-    base, every = drawn(), drawn("--kinds", str(last))
+    base, every, guarded = drawn(), drawn("--kinds", str(last)), drawn("--kinds", str(last), "--guards")
     empty = open(os.path.join(TOP, "crates/blockwords/stdin"), "rb").read()
     (long_base, words_base), (long, words) = longest(BASE), longest(last)
     sets = (
         (f"1,000 drawn, kinds 0 to {BASE}", base, 50),
         (f"1,000 drawn, kinds 0 to {last}", every, 50),
+        (f"1,000 drawn, kinds 0 to {last}, {sum(map(in_ram, map(bytes.fromhex, guarded)))} of them in RAM", guarded, 50),
         ("the empty block, 35 words", [empty.hex()] * 100, 5000),
         (f"the longest block, {words:,} words", [long.hex()] * 100, 10),
         (f"the longest of kinds 0 to {BASE}, {words_base:,} words", [long_base.hex()] * 100, 50),
@@ -272,7 +262,7 @@ def main():
         for cells in zip(("read", "lower", "finish", "whole"), counts, ns, others):
             row(*cells)
 
-    full = [r for r in map(bytes.fromhex, every) if len(fields(r)) == 32]
+    full = [r for r in map(bytes.fromhex, every) if len(list(operations(r))) == 32]
     print(f"\nGrowth, on the {len(full)} drawn records of 32 operations, cut behind so many:\n")
     growth(full, rust)
     print("\nGrowth, on the longest block, cut behind so many:\n")

@@ -42,7 +42,9 @@ extern "C" {
     X(14, WERFUND_OFFSET_UNALIGNED, "an offset that is no multiple of 4")                                            \
     X(15, WERFUND_OFFSET_OVERLAP, "two places of the processor record that overlap")                                 \
     X(6, WERFUND_REGION, "a region shorter than 4, with a base that is no multiple of 4, or that ends above 2^32")   \
-    X(7, WERFUND_START, "a block's address outside 02000000 to 03ffffff")                                            \
+    X(7, WERFUND_START, "a block's address neither in flash's range, 02000000 to 03ffffff, nor inside RAM")          \
+    X(16, WERFUND_GUARD, "tag 06 next behind a start in flash's range, or not next behind one in RAM")               \
+    X(17, WERFUND_PAST_RAM, "an operation of a block in RAM that reaches past RAM's end")                            \
     X(10, WERFUND_ROOM, "more words are needed than lent; the record has no other fault")                            \
     X(11, WERFUND_REACH, "a link's body out of reach")                                                               \
     X(12, WERFUND_UNALIGNED, "a link's address that is no multiple of 4")
@@ -86,8 +88,14 @@ static inline const char *werfund_fault_text(uint32_t number) {
  * Sites are listed by rising word position, each once: of two, cell 4 is below cell 6, both are below cell 1, and the first leads to the
  * address behind the block. What there is not is 0: place in an accepted block, the others in a refused record.
  *
- * 28,124 words are enough for every block. The longest that is known takes 22,666, and of kinds 0 to 39 alone 3,250; werfund_words_needed
- * says how many a block takes.
+ * A block that starts inside RAM and outside 02000000 to 03ffffff has a guard: its record has the field with tag 06, of 16 bytes, next
+ * behind the field with tag 04: the address of the guard's record and that of `h_ram_ok`. The block compares the version at byte 40 of the
+ * context with that at byte 0 of the guard, 64 bits each. Where they differ it calls `h_ram_ok` with the context in x0 and the guard's
+ * address in x1, and an answer of 0 in w0 makes it leave with nothing done: pc the block's address, the done count as it was. Copying the
+ * block's bytes and comparing them is the host's. The field stands in no other record.
+ *
+ * 28,166 words are enough for every block. The longest that is known takes 22,684, in flash 22,666, and of kinds 0 to 39 alone
+ * 3,268 and 3,250; werfund_words_needed says how many a block takes.
  */
 uint32_t werfund_translate(const uint8_t *record, size_t record_bytes, uint32_t *words, size_t words_lent, uint64_t *table, uint64_t *answer,
                            size_t answer_cells);

@@ -30,7 +30,7 @@ LENT = 16384
 AT_ONCE = 1000  # cases
 
 # The oracle's options with the change requests that have landed (tests/oracle/README.md); a request that has one of its own adds it.
-OPTIONS = ["--kinds", "44", "--split5", "--wordtest"]
+OPTIONS = ["--kinds", "44", "--split5", "--wordtest", "--guards"]
 
 
 def public(path):
@@ -128,6 +128,25 @@ def case(lent, record, listing, need):
     rest = struct.pack("<14I", lent, *fault, len(words), body, len(sites), *two, *need, len(record))
     rest += record + struct.pack(f"<{len(words)}I", *words)
     return struct.pack("<I", len(rest)) + rest
+
+
+def in_ram(record):
+    """Whether a record that is accepted is a RAM block's: field 06 is next behind field 04."""
+    return record[77:78] == b"\6"
+
+
+def first(record):
+    """Where the operations of a record that is accepted start."""
+    return 96 if in_ram(record) else 77
+
+
+def operations(record):
+    """The operations' fields of a record that is accepted."""
+    at = first(record)
+    while at < len(record):
+        end = at + 3 + record[at + 1] + 256 * record[at + 2]
+        yield record[at:end]
+        at = end
 
 
 def records(path):

@@ -18,6 +18,12 @@ TOP = Path(__file__).resolve().parent.parent
 
 # How records become cases, what draws them, and the seeds that stand for SEED.
 ROWS = (
+    ("drawn", "blocks.py SEED 50000 --kinds 44 --guards --damaged 40", "60601 60602"),
+    ("drawn", "blocks.py SEED 50000 --kinds 44 --guards --damaged 0", "60603 60604"),
+    ("drawn", "blocks.py SEED 20000 --request 2026-06 --damaged 30", "60605"),
+    ("drawn", "blocks.py SEED 30000 --request 2026-06 --damaged 100", "60606"),
+    ("edge", "blocks.py SEED 1000 --request 2026-06 --damaged 0", "60607"),
+    ("cut", "blocks.py SEED 30 --request 2026-06 --damaged 0", "60608"),
     ("drawn", "blocks.py SEED 50000 --kinds 44 --damaged 40", "40401 40402"),
     ("drawn", "blocks.py SEED 20000 --request 2026-04 --damaged 30", "40403"),
     ("drawn", "blocks.py SEED 10000 --request 2026-04 --damaged 100", "40404"),

@@ -4,7 +4,8 @@
 
 The first is the folder of the vectors, with `vec.py`, which reads them: vectors/instructions.txt from an A64 emulator, one instruction a
 vector, and machine.txt, words.txt and grey.txt, calls and faults by document 01. Of each encoder those vectors are taken that show
-most: operands, results and flags of each sign, register 31 in each field, each way of a branch. Prints how many.
+most: operands, results and flags of each sign, register 31 in each field, each way of a branch. The calls of a guard's helper are GUARDS,
+by document 02 (2026-06). Prints how many.
 """
 import os
 import re
@@ -31,7 +32,18 @@ all-end = refl
 """
 REGIONS = "code stack processor context ram xip map table".split()
 STATE = ["read", "write"] + REGIONS
-ROW = "Row runs returns jumps faults calls reply same x sp nzcv pc bytes _&_ noEncoder".split()
+ROW = "Row runs returns jumps faults calls asks reply versions same x sp nzcv pc bytes _&_ noEncoder".split()
+
+# Calls of the guard's helper: the register that holds its address, register 1, the answer with the upper half of register 0, the break
+# word, register 30, flags, the number that gives the rest, and the versions afterwards: the context's and those of two guards.
+HELPER = 0x600000020
+GUARDS = (
+    (9, 0x750000000, 1, 0, 0x2FFFFFFF84, 0, 11, (7, 7, 9)),
+    (9, 0x760000000, 0, 1, 0x1122334455667788, 15, 12, (2**64 - 1, 0, 2**63)),
+    (16, 0xFEDCBA9876543210, 0xFFFFFFFF00000000, 0xFFFFFFFF, 0, 4, 13, (0x0102030405060708, 0x1112131415161718, 0x2122232425262728)),
+    (28, 0xFFFFFFFF, 0x80000000, 0, 1, 8, 14, (2**32, 2**32 + 1, 2**32 - 1)),
+    (30, 0, 0x12345678FFFFFFFF, 0x80000000, 0x2FFFFFFF84, 2, 15, (0, 2**64 - 1, 2**64 - 2)),
+)
 
 
 def number(v):
@@ -142,6 +154,15 @@ def written(out, name, what, groups, vec):
     return sum(len(cases) for _, cases in groups)
 
 
+def guard_row(k, case):
+    """The row of a call of the guard's helper, at place k of the code."""
+    register, address, answer, brk, link, flags, seed, versions = case
+    start = changes({1: address, register: HELPER}, None, None, None, {})
+    reply = "(reply %s %d)" % (" ".join(map(number, (answer, brk, link, flags))), seed)
+    given = "(versions %s)" % " ".join(map(number, versions))
+    return laid(["asks %d 0x%08x" % (k, 0xD63F0000 | register << 5), start, number(address), reply, given])
+
+
 def spread(cases, n, first):
     """n of the cases, evenly, from the first on."""
     return [cases[(k * len(cases) // n + first) % len(cases)] for k in range(n)] if len(cases) > n else cases
@@ -173,6 +194,8 @@ def main():
     some = lambda kind: [c for n, cs in enumerate(of(kind)) for c in spread(cs, EDGES, n)]
     counts["Calls"] = written(out, "Calls", "Helper calls, and 20 where no outcome is left", [
         ("read", machine["call_read", 0]), ("write", machine["call_write", 0]), ("no outcome", machine["call_empty", 0])], vec)
+    file(out, "Guards", "Calls of a guard's helper", "\n    ∷ ".join(guard_row(k, c) for k, c in enumerate(GUARDS)) + "\n    ∷ []")
+    counts["Guards"] = len(GUARDS)
     counts["Regions"] = written(out, "Regions", "Accesses in each region; 19 outside, across an end, into code or flash", [
         ("no whole word of the code", machine["fetch", 0]), ("loads", some("load")), ("stores", some("store")),
         ("into code or flash", some("regions")), ("not wholly in one region", some("access"))], vec)

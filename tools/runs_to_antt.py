@@ -90,8 +90,8 @@ def filled(parts):
 
 
 def request(q):
-    if q[0] == "read":
-        return "read " + " ".join(map(number, q[1:]))
+    if q[0] in ("read", "guard"):
+        return " ".join([q[0], *map(number, q[1:])])
     _, address, value, width, index = q
     return "write " + " ".join(map(number, (address, width, index, value)))
 
@@ -113,6 +113,7 @@ def changes(s, e):
     """In what the end differs from the start."""
     out = [f"reg {k} {number(v)}" for k, (u, v) in enumerate(zip(s.regs, e.regs)) if u != v]
     out += [f"{n} {number(getattr(e, n))}" for n in CELLS if getattr(s, n) != getattr(e, n)]
+    out += [f"{n} {number(v)}" for n, u, v in zip(VERSIONS, s.versions or (), e.versions or ()) if u != v]
     out += [f"{n} {arg(bytes_(getattr(e, n) or b''))}" for n in ("ram", "map") if (getattr(s, n) or b"") != (getattr(e, n) or b"")]
     return [f"({out[0]}"] + [f"& {c}" for c in out[1:-1]] + [f"& {out[-1]})"] if len(out) > 1 else [arg(out[0])]
 
@@ -123,16 +124,26 @@ def spread(items):
     return [f"({items[0]}"] + [f"∷ {i}" for i in items[1:]] + ["∷ [])"] if items else ["[]"]
 
 
+def outcome(o):
+    text = f"outcome {number(o.answer)} {number(o.brk)} {arg(bytes_(o.ram))} {arg(bytes_(o.map or b''))}"
+    return f"leaving {' '.join(map(number, o.versions))} ({text})" if o.versions else text
+
+
 def case(run, listing, names):
     b, s, e = run.block, run.start, run.end
-    outcomes = (f"outcome {number(o.answer)} {number(o.brk)} {arg(bytes_(o.ram))} {arg(bytes_(o.map or b''))}" for o in run.outcomes)
+    outcomes = map(outcome, run.outcomes)
     memory = " ".join(map(number, b.mem))
     ops = spread(operation(o, names) for o in b.ops)
-    code = [f"runs (block (memory {memory} {flag(b.map)}) {number(b.pc0)}"] + ops[:-1] + [ops[-1] + ")"]
+    code = [f"(block (memory {memory} {flag(b.map)}) {number(b.pc0)}"] + ops[:-1] + [ops[-1] + ")"]
+    if b.guard:
+        code = [f"(guarded {number(b.guard[0])}"] + code[:-1] + [code[-1] + ")"]
+    code = [f"runs {code[0]}"] + code[1:]
     low, high = ("0x" + "".join("%08x" % r for r in half) for half in (s.regs[:8], s.regs[8:]))
     cells = [number(getattr(s, n)) for n in CELLS]
     given = spread(outcomes)
     card = [f"(card (regs {low}", f"{high})"] + cells + [arg(bytes_(s.ram)), arg(bytes_(s.map or b""))] + given[:-1] + [given[-1] + ")"]
+    if b.guard:
+        card = ["(versions " + " ".join(map(number, (s.versions[0], b.guard[0], s.versions[1])))] + card[:-1] + [card[-1] + ")"]
     table = arg(listed(f"entry {number(i)} {number(g)}" for i, (g, _) in sorted(run.table.items())))
     end = [table, arg(leaving(run, listing))] + changes(s, e) + spread(map(request, run.requests))
     return "\n    ".join(filled(parts) for parts in (code + [arg(bytes_(s.xip)), number(s.limit)], card, end))
@@ -148,7 +159,7 @@ use Rattle.card.specs.Memory.{readLE, writeLE, load, direct, store}
 use Rattle.card.specs.Step.{%s}
 use Rattle.card.specs.Run.{opsFrom, run}
 use Rattle.card_runs.specs.Case.{Case, runs, reached, expected, block, memory, op, hex, regs, card}
-use Rattle.card_runs.specs.Case.{%s}
+%s
 
 abbrev cases : List Case
 cases =
@@ -160,7 +171,8 @@ unfolding run opsFrom opStep load direct store readLE writeLE signedOf signExten
 all-reach = refl
 """
 CELLS = "sp rets hold brk pc done".split()
-CASE = "outcome entry byReturn byTable byChain reg".split() + CELLS + ["ram", "map", "_&_"]
+VERSIONS = "version guardVersion".split()
+CASE = "guarded outcome leaving versions entry byReturn byTable byChain reg".split() + CELLS + VERSIONS + ["ram", "map", "_&_"]
 
 
 def walks(text):
@@ -183,9 +195,12 @@ def uses(text, names):
             lines.append(f"use Rattle.block.specs.declared.{kind}.the-variants.{{{', '.join(own[k:k + 8])}}}")
     steps, registers = walks(text)
     lines += [f"use Rattle.block.specs.Block.{{{', '.join(registers)}}}"] if registers else []
-    asked = [n for n in ("read", "write") if n in found]
+    asked = [n for n in ("read", "write", "guard") if n in found]
     lines += [f"use Rattle.card.specs.Card.{{{', '.join(asked)}}}"] if asked else []
-    return "\n".join(lines), ", ".join(["opStep"] + steps), ", ".join(n for n in CASE if n.strip("_") in found)
+    own = [n for n in CASE if n.strip("_") in found]
+    cut = len(own) if len(", ".join(own)) < 95 else 12
+    case = [f"use Rattle.card_runs.specs.Case.{{{', '.join(part)}}}" for part in (own[:cut], own[cut:]) if part]
+    return "\n".join(lines), ", ".join(["opStep"] + steps), "\n".join(case)
 
 
 def groups(path, runs):

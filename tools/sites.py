@@ -28,6 +28,7 @@ ROWS = (
     ("blocks.py SEED 60000 --kinds 44 --damaged 0", "50501"),
     ("blocks.py SEED 20000 --request 2026-04 --damaged 0", "50502"),
     ("blocks.py SEED 8000 --damaged 0", "50503"),
+    ("blocks.py SEED 10000 --kinds 44 --guards --damaged 0", "60612"),
 )
 
 UNLINKED = 0x14000001  # B to the next word

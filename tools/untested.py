@@ -33,9 +33,10 @@ ROWS = (
     ("blocks.py SEED 1500 --request 2026-01 --damaged 0", "40409", 1),
     ("pressure.py SEED 1000", "40410", 1),
     ("blocks.py SEED 10000 --request 2026-04 --damaged 0", "40411", 0),
+    ("blocks.py SEED 10000 --kinds 44 --guards --damaged 0", "60611", 1),
 )
 
-FLAG, HEAD = 42, 77  # where the map flag stands in a record, and the first operation
+FLAG = 42  # where the map flag stands in a record
 WIDTHS = {22: 3, 24: 4, 26: 2, 27: 1}  # St, StIdx, StPost, Rmw: which operand is the width
 PUSH_RET = 28
 
@@ -93,12 +94,10 @@ def sets(folder):
 
 def tested_stores(record):
     """How many stores of an accepted block are tested: with a map, the word stores of its own."""
-    at, found = HEAD, 0
-    while at < len(record):
-        kind, size = record[at + 3], record[at + 1] + 256 * record[at + 2]
-        width = at + 6 + 4 * WIDTHS.get(kind, 0)
-        found += kind == PUSH_RET or kind in WIDTHS and record[width] == 4
-        at += 3 + size
+    found = 0
+    for field in block_cases.operations(record):
+        kind = field[3]
+        found += kind == PUSH_RET or kind in WIDTHS and field[6 + 4 * WIDTHS[kind]] == 4
     return found * record[FLAG]
 
 

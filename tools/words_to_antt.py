@@ -1,14 +1,15 @@
 """Turns records with their listings into equations on the definitions of reading and lowering.
 
-    python3 tools/words_to_antt.py RECORDS OUT [--most WORDS] [--commit LISTING]
+    python3 tools/words_to_antt.py RECORDS OUT [--most WORDS] [--commit LISTING] [--refused]
 
 RECORDS is a file of records in the format of the oracle's vectors: a case begins with `> name words-lent record` (hexadecimal), and the
 lines up to the next `>` are its listing. OUT is the `proofs` folder of a crate that depends on record, lowering, code, block and arm; it
 gets `Words.antt` and `Lib.antt`. For each accepted record, of at most WORDS words, four equations say that the definitions give these
 very words and these very sites in this order, that the patches are where a word of the listing before the pool has a distance, by its
 opcode, and that behind half of them the words are the listing's with the distances of the others 0. LISTING is a command that prints a
-record's listing as the commit has it, without the tests of 2026-04: with it a fifth equation says that `commitWords` are its words. Each
-holds by computation, so that `rt check` of the crate compares every word.
+record's listing as the commit has it, without the tests of 2026-04: with it a fifth equation says that `commitWords` are its words. With
+--refused there is also an equation for each record that is refused, but for 10: that reading answers this number at this place. Each holds
+by computation, so that `rt check` of the crate compares every word.
 """
 import argparse
 import os
@@ -18,11 +19,12 @@ import subprocess
 UNFOLDED = {
     "block.specs.Block": "places upFrom",
     "record.specs.Record": "reading num16 num32 num64 fieldFault layoutFault regionFault memoryFault startFault contentsFault operationOf "
-                           "operationFault operations header refusedOr layoutField memoryField addressesField startField",
+                           "operationFault operations header refusedOr layoutField memoryField addressesField startField guardField "
+                           "inRam withinRam",
     "lowering.specs.Compile": "blockWords blockLines blockCode sites starts",
     "lowering.specs.Commit": "commitWords commitLines commitCode",
     "lowering.specs.Fragments": "addImm brkFirst even loads tryRegion extended alignTest mapTest stores call exitImm chain ind hold "
-                                "checkBrk fork limit load store stepCode stepCache stepsCode opening closing",
+                                "checkBrk fork limit guard load store stepCode stepCache stepsCode opening closing",
     "lowering.specs.Cache": "position latest oldest chosen spill slotFor seated ldReg stReg stored flushFrom flush reloadFrom reload",
     "lowering.specs.Instrs": "mov32",
     "lowering.specs.Steps": "moveWords pushAll popAll lowered opSteps opsSteps blockSteps",
@@ -69,8 +71,8 @@ def words_of(listing):
     return words
 
 
-def cases(path):
-    """Name, record, words and sites of each accepted record."""
+def listings(path):
+    """Name, record and listing of each case."""
     found = []
     for line in open(path):
         if line.startswith("> "):
@@ -78,7 +80,12 @@ def cases(path):
             found.append((name, record, []))
         else:
             found[-1][2].append(line.split())
-    for name, record, listing in found:
+    return found
+
+
+def cases(path):
+    """Name, record, words and sites of each accepted record."""
+    for name, record, listing in listings(path):
         if listing and listing[0][0] == "words":
             sites = [(int(line[1]), line[2]) for line in listing if line[0] == "site"]
             yield name, record, words_of(listing), sites
@@ -96,8 +103,25 @@ def patches(words):
     return found
 
 
+def refusals(path):
+    """Name, record, number and place of each record that reading refuses."""
+    for name, record, listing in listings(path):
+        if listing and listing[0][0] == "refused" and listing[0][1] != "10":
+            yield name, record.strip("-"), *listing[0][1:]
+
+
 def listed(items):
     return "".join(f"{i} ∷ " for i in items) + "[]"
+
+
+def refused(n, name, record, number, place):
+    """The equation on a refusal."""
+    return f"""
+-- {name}
+answer{n} : reading (hex {len(record) // 2} 0x{record or "0"}) .answer ≡ Refused {number} {place}
+unfolding {UNFOLDED["block.specs.Block"]} {UNFOLDED["record.specs.Record"]}
+answer{n} = refl
+"""
 
 
 def equations(n, case, commit):
@@ -145,17 +169,22 @@ def main():
     p.add_argument("out")
     p.add_argument("--most", type=int, default=1 << 30)
     p.add_argument("--commit", metavar="LISTING", help="a command that prints a record's listing without the tests of 2026-04")
+    p.add_argument("--refused", action="store_true")
     a = p.parse_args()
     if not a.commit:
         del UNFOLDED["lowering.specs.Commit"]
     taken = [c for c in cases(a.records) if len(c[2]) <= a.most]
     uses = "".join(f"use Rattle.{module}.{{{', '.join(names.split())}}}\n" for module, names in UNFOLDED.items())
+    lost = list(refusals(a.records)) if a.refused else []
+    uses += "use Rattle.record.specs.declared.Answer.the-variants.{Refused}\n" if lost else ""
     os.makedirs(a.out, exist_ok=True)
     with open(os.path.join(a.out, "Words.antt"), "w") as f:
         f.write(HEAD + uses + HEX + "".join(equations(n, c, a.commit) for n, c in enumerate(taken)))
+        f.write("".join(refused(n, *c) for n, c in enumerate(lost)))
     with open(os.path.join(a.out, "Lib.antt"), "w") as f:
         f.write("pub mod Words\n")
-    print(f"{len(taken)} records, {sum(len(c[2]) for c in taken)} words, {sum(len(patches(c[2])) for c in taken)} patches")
+    words, distances = (sum(map(len, found)) for found in ([c[2] for c in taken], [patches(c[2]) for c in taken]))
+    print(f"{len(taken)} records, {words} words, {distances} patches; {len(lost)} refused")
 
 
 if __name__ == "__main__":

@@ -311,6 +311,69 @@ static void layouts(void) {
     check(WERFUND_OFFSET == 5 && WERFUND_OFFSET_UNALIGNED == 14 && WERFUND_OFFSET_OVERLAP == 15, "a layout's faults by their names");
 }
 
+/* Blocks in RAM: a guard behind the start, where it is due and nowhere else, and operations up to RAM's end (2026-06). RAM is 01000000 to
+ * 0100ffff. */
+static void guards(void) {
+    static const uint8_t guard[19] = {6,    16,   0,    0x88, 0x77, 0x66, 0x55, 0x44, 0x33, 0x22,
+                                      0x11, 0x00, 0xff, 0xee, 0xdd, 0xcc, 0xbb, 0xaa, 0x99};
+    static const struct {
+        uint32_t start, guarded, nops, fault, place, words;
+    } block[] = {
+        {0x01000000, 1, 0, 0, 0, 52},
+        {0x01000010, 1, 1, 0, 0, 56},       /* an address that takes two words */
+        {0x0100fffe, 1, 1, 0, 0, 54},       /* up to RAM's end, */
+        {0x0100ffff, 1, 1, 17, 96, 0},      /* and past it, */
+        {0x0100fffc, 1, 3, 17, 108, 0},     /* by the third operation */
+        {0x0100ffff, 1, 0, 0, 0, 56},       /* without one */
+        {0x01000000, 0, 0, 16, 70, 0},      /* no guard in RAM, at the record's end */
+        {0x01000000, 0, 1, 16, 70, 0},      /* and before an operation */
+        {0x02000000, 1, 0, 16, 70, 0},      /* a guard in flash's range */
+        {0x00ffffff, 1, 0, 7, 70, 0},       /* neither, */
+        {0x01010000, 0, 0, 7, 70, 0},       /* at either end of RAM, */
+        {0x04000000, 1, 1, 7, 70, 0},       /* and of flash's range */
+    };
+    uint32_t *words = lend(57);
+    werfund_answer a;
+    uint8_t record[77 + sizeof guard + 3 * 6];
+    for (size_t i = 0; i < sizeof block / sizeof *block; i++) {
+        static const uint8_t nop[6] = {5, 3, 0, 0, 2, 0};
+        size_t bytes = 77;
+        uint32_t fault = block[i].fault;
+        memcpy(record, empty_block, 77);
+        for (int k = 0; k < 4; k++) {
+            record[73 + k] = (uint8_t)(block[i].start >> 8 * k);
+        }
+        if (block[i].guarded) {
+            memcpy(record + bytes, guard, sizeof guard);
+            bytes += sizeof guard;
+        }
+        for (uint32_t k = 0; k < block[i].nops; k++, bytes += sizeof nop) {
+            memcpy(record + bytes, nop, sizeof nop);
+        }
+        check(counts(record, bytes, fault, block[i].place, block[i].words), "a block in RAM, counted");
+        check(werfund_translate_checked(record, bytes, words, 57, table, &a) == fault, "and translated");
+        check(a.place == block[i].place && a.words == block[i].words, "at its place, or with its words");
+        check(fault != 0 ? all(words, 0, 57, 0) : a.body == 52 && a.sites == 1 && a.site[0].target == block[i].start + 2 * block[i].nops,
+              "its site leads to the address behind it, or its words are 0");
+        if (fault == 0) {
+            check(words[20] == 0xf9401689 || words[21] == 0xf9401689, "the version is loaded behind the limit's test");
+            check(words[a.words - 2] == 0xddeeff00 && words[a.words - 1] == 0x99aabbcc, "the last literal is the helper's address");
+            fault = werfund_translate_checked(record, bytes, words, block[i].words - 1, table, &a);
+            check(fault == WERFUND_ROOM && a.place == bytes, "one word fewer is fault 10 at the record's length");
+        }
+    }
+    memcpy(record, empty_block, 77);
+    record[76] = 1;
+    memcpy(record + 77, guard, sizeof guard);
+    check(counts(record, 95, WERFUND_CUT, 77, 0) && counts(record, 78, WERFUND_CUT, 77, 0), "a guard that is cut is fault 1 at 77");
+    record[78] = 15;
+    check(counts(record, 95, WERFUND_FIELD, 77, 0), "a guard of 15 bytes is fault 2 at 77");
+    record[76] = 2;
+    check(counts(record, 78, WERFUND_GUARD, 70, 0), "behind a start in flash's range a lone tag 06 is fault 16 at 70");
+    check(WERFUND_START == 7 && WERFUND_GUARD == 16 && WERFUND_PAST_RAM == 17, "the faults of a start by their names");
+    free(words);
+}
+
 /* Each row of the table has a text of its own, and so has WERFUND_MISUSE; no other number has one of these. */
 static void texts(void) {
 #define ROW(number, name, text) {number, text},
@@ -511,6 +574,7 @@ int main(int argc, char **argv) {
     two_sites();
     groups();
     layouts();
+    guards();
     texts();
     lengths();
     misuse();

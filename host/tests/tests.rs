@@ -338,6 +338,85 @@ fn layouts(checks: &mut Checks) {
     }
 }
 
+/// Blocks in RAM: a guard behind the start, where it is due and nowhere else, and operations up to RAM's end (2026-06). RAM is 01000000 to
+/// 0100ffff.
+fn guards(checks: &mut Checks) {
+    let addresses = [0x1122334455667788u64, 0x99aabbccddeeff00];
+    let guard = [vec![6, 16, 0], addresses.map(u64::to_le_bytes).concat()].concat();
+    let blocks = [
+        (0x01000000, true, 0, Ok(52)),
+        (0x01000010, true, 1, Ok(56)), // an address that takes two words
+        (0x0100fffe, true, 1, Ok(54)), // up to RAM's end,
+        (0x0100ffff, true, 1, Err((17, 96))), // and past it,
+        (0x0100fffc, true, 3, Err((17, 108))), // by the third operation
+        (0x0100ffff, true, 0, Ok(56)), // without one
+        (0x01000000, false, 0, Err((16, 70))), // no guard in RAM, at the record's end
+        (0x01000000, false, 1, Err((16, 70))), // and before an operation
+        (0x02000000, true, 0, Err((16, 70))), // a guard in flash's range
+        (0x00ffffff, true, 0, Err((7, 70))), // neither,
+        (0x01010000, false, 0, Err((7, 70))), // at either end of RAM,
+        (0x04000000, true, 1, Err((7, 70))), // and of flash's range
+    ];
+    let mut translator = Translator::new();
+    for (start, guarded, nops, expected) in blocks {
+        let mut record = block(start, 0);
+        if guarded {
+            record.extend(&guard);
+        }
+        record.extend([5, 3, 0, 0, 2, 0].repeat(nops));
+        let expected = expected.map_err(|(number, place)| fault(number, place));
+        let mut words = [BEFORE; 57];
+        let answer = translator.translate(&record, &mut words);
+        checks.check(
+            answer.map(|block| block.words) == expected,
+            "a block in RAM",
+        );
+        checks.check(
+            translator.words_needed(&record) == expected,
+            "a block in RAM, counted",
+        );
+        checks.check(
+            match answer {
+                Ok(block) => {
+                    let (count, body, sites) = parts(block);
+                    let behind = start + 2 * nops as u32;
+                    let literal = [0xddeeff00, 0x99aabbcc];
+                    body == 52
+                        && sites.len() == 1
+                        && sites[0].target == behind
+                        && words[20..22].contains(&0xf9401689)
+                        && words[count - 2..count] == literal
+                }
+                Err(_) => words == [0; 57],
+            },
+            "its site leads to the address behind it, its last literal is the helper's address; or its words are 0",
+        );
+        if let Ok(needed) = expected {
+            checks.check(
+                translator.translate(&record, &mut words[..needed - 1])
+                    == Err(fault(10, record.len())),
+                "one word fewer is fault 10 at the record's length",
+            );
+        }
+    }
+    let mut cut = block(0x01000000, 0);
+    cut.extend(&guard);
+    checks.check(
+        [95, 78].map(|n| translator.words_needed(&cut[..n])) == [Err(fault(1, 77)); 2],
+        "a guard that is cut is fault 1 at 77",
+    );
+    cut[78] = 15;
+    checks.check(
+        translator.words_needed(&cut[..95]) == Err(fault(2, 77)),
+        "a guard of 15 bytes is fault 2 at 77",
+    );
+    cut[76] = 2;
+    checks.check(
+        translator.words_needed(&cut[..78]) == Err(fault(16, 70)),
+        "behind a start in flash's range a lone tag 06 is fault 16 at 70",
+    );
+}
+
 /// The texts are those of the table in host/werfund.h, each its own, and a number without a row is unknown, as 0 is: it is no fault.
 fn texts(checks: &mut Checks) {
     let rows: BTreeMap<u32, &str> = include_str!("../werfund.h")
@@ -425,6 +504,7 @@ fn main() -> ExitCode {
     two_sites(&mut checks);
     groups(&mut checks);
     layouts(&mut checks);
+    guards(&mut checks);
     texts(&mut checks);
     interleaved(&mut checks);
     links(&mut checks);

@@ -59,7 +59,7 @@ module _ {b : Block} {h : Helpers} {s0 : State} (B : Body b h s0) (C : Checked b
     unfolding loads
     exec-load {s = s} z w signed o m l = by w signed l
       where
-        n : length (s .mem) ≡ 8
+        n : 8 ≤ length (s .mem)
         n = count-now B z
 
         sz : sizeOf (s .mem) k ≡ sizeOf (s0 .mem) k

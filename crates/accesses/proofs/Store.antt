@@ -14,7 +14,7 @@ use native.Mathlib.Nat.{mod-eq-of-lt}
 use native.Mathlib.Omega.{arith}
 use borrow.Author.Tests.{leb-true, leb-false, eqb-true, eqb-false, not-true, not-false}
 use lib.Dec.{leb, eqb}
-use lib.ListN.{length}
+use lib.ListN.{length, getD}
 use Rattle.arm.specs.declared.Size.the-variants.{W, X}
 use Rattle.arm.specs.declared.Access.{Access}
 use Rattle.arm.specs.declared.Access.the-variants.{Ldrb, Strb, Strh, StrW}
@@ -27,11 +27,11 @@ use Rattle.block.specs.Checked.{Checked}
 use Rattle.code.specs.Items.{b as always, bCond, cb, tb}
 use Rattle.code.specs.Tree.{Depth, under, inner, outer, Code, code, to, _then_}
 use Rattle.code.specs.Machine.{fall}
-use Rattle.machine.specs.State.{State, R, withX, withMem, code as codeRegion, stack, processor, context, ram, xip, map, table}
+use Rattle.machine.specs.State.{State, R, withX, withMem, code as codeRegion, stack, processor, context, ram, xip, map, table, guards}
 use Rattle.machine.specs.Memory.{readLE, writeLE, bytesOf, sizeOf, withBytes}
 use Rattle.machine.specs.Execute.{Helpers, stores as puts, direction, accessBytes}
 use Rattle.machine.proofs.Bytes.{read-lt, length-writeLE}
-use Rattle.machine.proofs.Regions.{alike-trans, alike-with, bytes-same, bytes-other}
+use Rattle.machine.proofs.Regions.{alike-trans, alike-with, bytes-same, bytes-other, drop-with}
 use Rattle.machine.proofs.Registers.{W-of-X}
 use Rattle.machine.proofs.Data.{exec-lsr-imm}
 use Rattle.card.specs.Card.{Card, setRam, asked, Outcome as CardOutcome, write as cardWrite}
@@ -42,6 +42,7 @@ use Rattle.lowering.specs.declared.RegCache.{RegCache}
 use Rattle.lowering.specs.Instrs.{CTX, RAM, FLAGS, DONE, HI, mov, movX, mov32, addI, sub, cmp, lsrI, indexed}
 use Rattle.lowering.specs.Fragments.{even, alignTest, mapTest, stores, call, store, stepCode, stepCache}
 use Rattle.lowering.specs.Steps.{Step}
+use Rattle.demand.specs.Premises.{ramGuards}
 use Rattle.relation.specs.Lines.{arm, ofEffect, bare, exec, taken}
 use Rattle.relation.specs.Abs.{Abs, go, upd, kill, known, ifGot, withTemp, withCard, mstep}
 use Rattle.relation.specs.Relation.{cls, Body, Kept, Sim, Frag, Meets}
@@ -60,11 +61,11 @@ use Rattle.accesses.proofs.Range.{tested, range-frag, range-in, range-o
 module _ {b : Block} {h : Helpers} {s0 : State} (B : Body b h s0) where
   kept-ram : {c : Card} {pc slot : ℕ} {s : State} → Kept b s0 c pc slot s → (l : List ℕ) → length l ≡ sizeOf (s .mem) ram → Kept b s0 (setRam l c) pc slot (withMem (withBytes ram l (s .mem)) s)
   kept-ram {c} {pc} {slot} {s} w l e =
-      let n : length (s .mem) ≡ 8 = count-now B w in
+      let n : guards ≤ length (s .mem) = count-now B w in
       record {
         fixed = record { registers = w .fixed .registers; keeps = w .fixed .keeps; sp = w .fixed .sp };
         fields = rw (bytes-other ram l (s .mem) processor (omega arith)) (record { sp-is = w .fields .sp-is; rets-is = w .fields .rets-is; hold-is = w .fields .hold-is; pc-is = w .fields .pc-is; outside = w .fields .outside });
-        ctx = rw (bytes-other ram l (s .mem) context (omega arith)) (record { brk-is = w .ctx .brk-is; slot-is = w .ctx .slot-is; outside = w .ctx .outside });
+        ctx = rw (bytes-other ram l (s .mem) context (omega arith)) (record { brk-is = w .ctx .brk-is; slot-is = w .ctx .slot-is; version-is = w .ctx .version-is; outside = w .ctx .outside });
         others = record {
           alike = alike-trans (w .others .alike) (alike-with ram l (s .mem) e);
           code-is = bytes-other ram l (s .mem) codeRegion (omega arith) ∙ w .others .code-is;
@@ -73,6 +74,8 @@ module _ {b : Block} {h : Helpers} {s0 : State} (B : Body b h s0) where
           xip-is = bytes-other ram l (s .mem) xip (omega arith) ∙ w .others .xip-is;
           map-is = bytes-other ram l (s .mem) map (omega arith) ∙ w .others .map-is;
           table-is = bytes-other ram l (s .mem) table (omega arith) ∙ w .others .table-is;
+          guards-are = ap ramGuards (drop-with guards ram l (s .mem) (omega arith)) ∙ w .others .guards-are;
+          guards-is = λ k o y m. ap (λ b. getD b o 0) (bytes-other ram l (s .mem) k (omega arith)) ∙ w .others .guards-is k o y m;
         };
         io = record { outcomes-are = w .io .outcomes-are; requests-are = w .io .requests-are; goods = w .io .goods };
         small = record { count = w .small .count; regs-lt = w .small .regs-lt; sp-lt = w .small .sp-lt; rets-lt = w .small .rets-lt; hold-lt = w .small .hold-lt; brk-lt = w .small .brk-lt; pc-lt = w .small .pc-lt };

@@ -6,11 +6,12 @@ use mathlib.Core.List.{List, [], _∷_, _++_, Perm·swap}
 use Prim.Native.Nat.{ℕ, _<_, _≤_, _/_, _%_}
 use lib.ListN.{length, drop, replicate}
 use Rattle.block.specs.declared.Block.{Block}
+use Rattle.block.specs.Block.{noGuard}
 use Rattle.record.specs.declared.Answer.the-variants.{Accepted as NoFault}
 use Rattle.record.specs.declared.Reading.{Reading}
 use Rattle.record.specs.Record.{nop, num16, num32, num64, fieldFault, layoutFault, regionFault, memoryFault, startFault, contentsFault}
 use Rattle.record.specs.Record.{operationOf, operationFault, operations, header, refusedOr, layoutField, memoryField, addressesField}
-use Rattle.record.specs.Record.{startField, reading}
+use Rattle.record.specs.Record.{startField, guardField, withinRam, reading}
 use Rattle.code.specs.Items.{index, add, halves, padOf, baseOf}
 use Rattle.code.specs.Tree.{Line, words, lines, instrs, wholeLines, poolIn, findIn, linesWords}
 use Rattle.code.specs.Walk.{linesAt, patchesOf, unpatchedWords, completedAt, walkedWords}
@@ -48,6 +49,7 @@ block =
       memory = record { «ram_base» = 0x01000000; «ram_len» = 0x00010000; «xip_base» = 0x02000000; «xip_len» = 0x00100000; map = false };
       addresses = record { «h_read» = 0; «h_write» = 0; table = 0 };
       pc0 = 0x02000000;
+      guard = noGuard;
       ops = replicate 32 nop;
       n = 0;
     }
@@ -65,7 +67,7 @@ listing =
 read-is : reading record-bytes ≡ record { answer = NoFault; block = block }
 unfolding
     num16 num32 num64 fieldFault layoutFault regionFault memoryFault startFault contentsFault operationOf operationFault operations
-    header refusedOr layoutField memoryField addressesField startField reading
+    header refusedOr layoutField memoryField addressesField startField guardField withinRam reading
 read-is = refl
 
 words-are : blockWords (reading record-bytes .block) ≡ listing

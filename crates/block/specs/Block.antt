@@ -34,11 +34,26 @@ pub use Rattle.block.specs.declared.BOp.{BOp}
 pub use Rattle.block.specs.declared.Layout.{Layout}
 pub use Rattle.block.specs.declared.Memory.{Memory}
 pub use Rattle.block.specs.declared.Addresses.{Addresses}
+pub use Rattle.block.specs.declared.Guard.{Guard}
 pub use Rattle.block.specs.declared.Block.{Block}
 
 -- the operations of a block
 abbrev pub opsOf : Block → List BOp
 opsOf b = take (b .n) (b .ops)
+
+-- what a flash block has in place of a guard
+abbrev pub noGuard : Guard
+noGuard = record { at = 0; «h_ram_ok» = 0 }
+
+-- the guest lengths of operations, in whole numbers
+abbrev pub lengths : List BOp → ℕ
+lengths [] = 0
+lengths (o ∷ os) = o .len + lengths os
+
+-- flash's range, "02000000 to 03ffffff as before, whatever field 02 says". "A start in flash's range is a flash start even if it is inside
+-- RAM too; a RAM start is any other inside RAM."
+abbrev pub inFlash : ℕ → Bool
+inFlash a = leb 0x02000000 a && ltb a 0x04000000
 
 -- bytes of a width
 abbrev pub bytes : Width → ℕ

@@ -1,11 +1,13 @@
--- What holds of every block that reading accepts: document 01's "The block record" and its faults 4 to 9, as facts.
+-- What holds of every block that reading accepts: document 01's "The block record" and its faults 4 to 9, with those that
+-- 2026-03 and 2026-06 add, as facts.
 use mathlib.Core.Path.{_≡_}
 use mathlib.Core.Bool.{false}
 use mathlib.Core.List.{List, [], _∷_}
 use mathlib.Core.Logic.{_⊎_}
 use Prim.Native.Nat.{ℕ, _+_, _*_, _%_, _<_, _≤_}
 use lib.ListN.{length}
-use Rattle.block.specs.Block.{Base, Reg, Sp, Fast, BOp, Layout, Memory, Addresses, Block, opsOf, mayJump, moved}
+use Rattle.block.specs.Block.{Base, Reg, Sp, Fast, BOp, Layout, Memory, Addresses, Guard, Block, opsOf, mayJump}
+use Rattle.block.specs.Block.{moved, lengths, inFlash}
 use Rattle.block.specs.Block.{Nop, MovI, Mov, AddRI, ShlI, SarI, Alu3, Alu3I, Alu2, Alu2I, A4, Ext, MinMax, Un, Div, Mov2, Mov2I}
 use Rattle.block.specs.Block.{BitExt, BitIns, SpAdd, RFromSp}
 use Rattle.block.specs.Block.{Ld, St, LdIdx, StIdx, LdPost, StPost, Rmw, PushRet, PopRets, BrI, BrR, DecBr, BitBr, Goto, Call, Rts}
@@ -97,7 +99,7 @@ NoneAfterJump [] = Unit {0}
 NoneAfterJump (o ∷ []) = Unit {0}
 NoneAfterJump (o ∷ (q ∷ os)) = (mayJump (o .fast) ≡ false) × NoneAfterJump (q ∷ os)
 
--- ---- fields 01 to 04
+-- ---- fields 01 to 04 and 06
 
 -- an offset, its last word `more` bytes on: below 16384 and a multiple of 4
 pub record Place (at more : ℕ) : Type 0 where
@@ -142,6 +144,10 @@ pub record AddressesFit (a : Addresses) : Type 0 where
   pub h-write : a .«h_write» < 18446744073709551616
   pub table : a .table < 18446744073709551616
 
+pub record GuardFits (g : Guard) : Type 0 where
+  pub at : g .at < 18446744073709551616
+  pub h-ram-ok : g .«h_ram_ok» < 18446744073709551616
+
 -- ---- groups
 
 -- a group's bytes are at most those of RAM, and at most those of XIP
@@ -152,14 +158,23 @@ abbrev pub GroupsFit : Memory → List BOp → Type 0
 GroupsFit m [] = Unit {0}
 GroupsFit m (o ∷ os) = GroupFits m (o .fast) × GroupsFit m os
 
+-- ---- a RAM block
+
+-- it starts inside RAM, and no operation of it reaches past RAM's end
+pub record InRam (m : Memory) (start bytes : ℕ) : Type 0 where
+  pub from : m .«ram_base» ≤ start
+  pub before : start < m .«ram_base» + m .«ram_len»
+  pub to : start + bytes ≤ m .«ram_base» + m .«ram_len»
+
 -- ---- the block
 
 pub record Checked (b : Block) : Type 0 where
   pub layout : LayoutFits (b .layout)
   pub memory : MemoryFits (b .memory)
   pub addresses : AddressesFit (b .addresses)
-  pub pc0-from : 0x02000000 ≤ b .pc0
-  pub pc0-to : b .pc0 < 0x04000000
+  pub pc0 : Bits32 (b .pc0)
+  pub in-ram : inFlash (b .pc0) ≡ false → InRam (b .memory) (b .pc0) (lengths (opsOf b))
+  pub guard : GuardFits (b .guard)
   pub count : b .n ≤ 32
   pub size : length (b .ops) ≡ 32
   pub ops : OpsFit (opsOf b)

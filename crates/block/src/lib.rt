@@ -2,7 +2,7 @@
 // arithmetic, `BOp` an operation of a block. A selector that document 01 counts in numbers is an enum here, a number above its
 // cases being its last case (docs/DECISIONS.md).
 ghost use mathlib.Core.Path.{_≡_};
-ghost use Rattle.block.specs.Block.{jumping, onBus};
+ghost use Rattle.block.specs.Block.{jumping, onBus, inFlash};
 
 // op 0 to 10
 pub enum Op {
@@ -352,12 +352,19 @@ pub struct Addresses {
     pub table: u64,
 }
 
+// A RAM block's guard, field 06: its `RamGuard`, and the helper that is asked where the versions differ. A flash block has zeros.
+pub struct Guard {
+    pub at: u64,
+    pub h_ram_ok: u64,
+}
+
 // Field 04 is pc0. The first n of ops are the block's operations, the others are Nop.
 pub struct Block {
     pub layout: Layout,
     pub memory: Memory,
     pub addresses: Addresses,
     pub pc0: u32,
+    pub guard: Guard,
     pub ops: [BOp; 32],
     pub n: u32,
 }
@@ -374,4 +381,11 @@ pub fn on_bus(kind: u8) -> bool
     ensures { λ r. ⌜ r ≡ onBus kind ⌝ }
 {
     ((21 <= kind) & (kind < 30)) | ((40 <= kind) & ((kind < 45) & (kind != 42)))
+}
+
+// A flash block starts in flash's range, whatever field 02 says; any other block is a RAM block.
+pub fn in_flash(pc: u32) -> bool
+    ensures { λ r. ⌜ r ≡ inFlash pc ⌝ }
+{
+    (0x02000000 <= pc) & (pc < 0x04000000)
 }

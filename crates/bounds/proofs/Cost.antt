@@ -1,4 +1,5 @@
--- WHAT A STEP COSTS, and a list of steps with it: words, labels and fix-ups at most (Short), chain sites exactly (Sites).
+-- WHAT A STEP COSTS, and a list of steps with it: words, labels and fix-ups at most (Short), chain sites exactly (Sites); and whether it is
+-- a guard, which has literals of its own (Pool).
 --     costOf, total     a step's cost, that of a list of steps
 --     Within            a list of steps costs no more than this
 --     length-le         a step costs at least a word
@@ -17,7 +18,7 @@ use Rattle.lowering.specs.Steps.{Step}
 
 -- fix-ups are counted with the references to literals
 pub data Measure : Type 0 where
-  words labels jumps sites : Measure
+  words labels jumps sites guards : Measure
 
 abbrev pub Cost : Type 0
 Cost = Measure → ℕ
@@ -27,6 +28,14 @@ cost w l j s Measure.words = w
 cost w l j s Measure.labels = l
 cost w l j s Measure.jumps = j
 cost w l j s Measure.sites = s
+cost w l j s Measure.guards = 0
+
+abbrev guardCost : Cost
+guardCost Measure.words = 38
+guardCost Measure.labels = 1
+guardCost Measure.jumps = 5
+guardCost Measure.sites = 0
+guardCost Measure.guards = 1
 
 abbrev pub costOf : Step → Cost
 costOf (Step.ldReg t r) = cost 3 0 0 0
@@ -44,6 +53,7 @@ costOf (Step.chain pc count) = cost 17 2 3 1
 costOf (Step.fork cond pc target count) = cost 35 5 7 2
 costOf (Step.ind t count brk) = cost 23 1 4 0
 costOf (Step.limit pc count) = cost 16 1 2 0
+costOf (Step.guard at helper pc) = guardCost
 
 abbrev pub total : List Step → Cost
 total [] m = 0
@@ -63,13 +73,16 @@ times zero c m = 0
 times (suc n) c m = c m + times n c m
 
 abbrev every : (Measure → Bool) → Bool
-every f = both (f Measure.words) (both (f Measure.labels) (both (f Measure.jumps) (f Measure.sites)))
+every f = both (f Measure.words) (both (f Measure.labels) (both (f Measure.jumps) (both (f Measure.sites) (f Measure.guards))))
 
 every-at : (f : Measure → Bool) → T (every f) → (m : Measure) → T (f m)
 every-at f t Measure.words = both-left (f Measure.words) _ t
 every-at f t Measure.labels = both-left (f Measure.labels) _ (both-right (f Measure.words) _ t)
 every-at f t Measure.jumps = both-left (f Measure.jumps) _ (both-right (f Measure.labels) _ (both-right (f Measure.words) _ t))
-every-at f t Measure.sites = both-right (f Measure.jumps) _ (both-right (f Measure.labels) _ (both-right (f Measure.words) _ t))
+every-at f t Measure.sites =
+    both-left (f Measure.sites) _ (both-right (f Measure.jumps) _ (both-right (f Measure.labels) _ (both-right (f Measure.words) _ t)))
+every-at f t Measure.guards =
+    both-right (f Measure.sites) _ (both-right (f Measure.jumps) _ (both-right (f Measure.labels) _ (both-right (f Measure.words) _ t)))
 
 abbrev pub below : Cost → Cost → Bool
 below a b = every (λ m. leb (a m) (b m))
@@ -130,6 +143,7 @@ word (Step.chain pc count) = tt
 word (Step.fork cond pc target count) = tt
 word (Step.ind t count brk) = tt
 word (Step.limit pc count) = tt
+word (Step.guard at helper pc) = tt
 
 pub length-le : (ss : List Step) → length ss ≤ total ss Measure.words
 length-le [] = omega arith

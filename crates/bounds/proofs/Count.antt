@@ -1,5 +1,7 @@
--- WHAT THE STEPS OF A CHECKED BLOCK COST: at most 877 words, 49 labels and 82 fix-ups an operation, and those of the limit and the chain.
--- Labels and fix-ups are those of 32 BlockMoves of 16 loads each. Only a jump has chain sites, at most two. The numbers of the steps fit.
+-- WHAT THE STEPS OF A CHECKED BLOCK COST: at most 877 words, 49 labels and 82 fix-ups an operation, and those of limit, guard and chain.
+-- Labels and fix-ups are those of 32 BlockMoves of 16 loads each in RAM. Only a jump has chain sites, at most two. No operation has a
+-- guard. The numbers of the steps fit.
+use mathlib.Core.Path.{_≡_}
 use mathlib.Core.Bool.{Bool, true, false}
 use mathlib.Core.List.{List, [], _∷_, _++_, reverse}
 use Prim.Native.Nat.{ℕ, suc, _+_, _%_, _<_, _≤_}
@@ -21,13 +23,13 @@ use Rattle.block.specs.declared.Fast.the-variants.{PushRet, PopRets, BrI, BrR, 
 use Rattle.block.specs.declared.Fast.the-variants.{BlockMove, PushRets, PopPc, LdPair, StPair}
 use Rattle.block.specs.declared.BOp.{BOp}
 use Rattle.block.specs.declared.Block.{Block}
-use Rattle.block.specs.Block.{opsOf, mayJump, usesBus, members, span, saved}
+use Rattle.block.specs.Block.{opsOf, mayJump, usesBus, inFlash, members, span, saved}
 use Rattle.block.proofs.Groups.{members-few, saved-few, reverse-count}
 use Rattle.block.specs.Checked.{Checked, FastFits, OpsFit}
 use Rattle.code.specs.Items.{pick}
 use Rattle.lowering.specs.Instrs.{KEEP, mov, lsrI}
 use Rattle.lowering.specs.Steps.{Field, Step, lowered, moveWord, moveWords, moveBase, moveOffset, push, pushAll, pop, popAll, behind}
-use Rattle.lowering.specs.Steps.{opSteps, opsSteps, blockSteps}
+use Rattle.lowering.specs.Steps.{opSteps, opsSteps, guardSteps, blockSteps}
 use Rattle.bounds.specs.Sound.{AllFit}
 use Rattle.bounds.proofs.Fit.{fit-append, op-fits}
 use Rattle.bounds.proofs.Cost.{Measure, Cost, cost, costOf, total, total-append, _⊕_, times, times-le, no-sites, below, Within, own}
@@ -199,15 +201,21 @@ ops-few i pc (o ∷ os) h =
 ops-count : (blk : Block) → Checked blk → length (opsOf blk) ≤ 32
 ops-count blk ck = simp length-take (omega (arith, ck .count))
 
--- its chain sites are fewer: Sites has them
-pub block-few : (blk : Block) → Checked blk → Within (cost 28097 1571 2629 65) (blockSteps blk)
-unfolding blockSteps
-block-few blk ck =
+all-ops-few : (blk : Block) → Checked blk → Within (times 32 opCost ⊕ endCost) (opsSteps 0 (blk .pc0) (opsOf blk))
+all-ops-few blk ck =
     let more : (m : Measure) → times (length (opsOf blk)) opCost m ≤ times 32 opCost m
     = λ m. times-le opCost m (length (opsOf blk)) 32 (ops-count blk ck) in
-    let ops : Within (times 32 opCost ⊕ endCost) (opsSteps 0 (blk .pc0) (opsOf blk))
-    = raised (λ m. omega (arith, more m)) (ops-few 0 (blk .pc0) (opsOf blk) (ck .ops)) in
-    wider tt (joined {xs = Step.limit (blk .pc0) (blk .n) ∷ []} own ops)
+    raised (λ m. omega (arith, more m)) (ops-few 0 (blk .pc0) (opsOf blk) (ck .ops))
+
+pub unguarded : (blk : Block) → Checked blk → total (opsSteps 0 (blk .pc0) (opsOf blk)) Measure.guards ≡ 0
+unguarded blk ck = omega (arith, all-ops-few blk ck .le Measure.guards)
+
+-- its chain sites are fewer: Sites has them
+pub block-few : (blk : Block) → Checked blk → Within (cost 28097 1571 2629 65 ⊕ costOf (Step.guard 0 0 0)) (blockSteps blk)
+unfolding blockSteps
+block-few blk ck =
+    let guarded : Within (costOf (Step.guard 0 0 0)) (guardSteps blk) = either (inFlash (blk .pc0)) (sure tt) (sure tt) in
+    wider tt (joined {xs = Step.limit (blk .pc0) (blk .n) ∷ []} own (joined guarded (all-ops-few blk ck)))
 
 -- ---- and their numbers fit
 pick-fits : (u : Bool) (xs ys : List Step) → AllFit xs → AllFit ys → AllFit (pick u xs ys)
@@ -225,5 +233,6 @@ ops-fit i pc (o ∷ os) n h k =
 pub block-fits : (blk : Block) → Checked blk → AllFit (blockSteps blk)
 unfolding blockSteps
 block-fits blk ck =
-    let pc0 : blk .pc0 < 4294967296 = omega (arith, ck .pc0-to) in
-    ((pc0, omega (arith, ck .count)), ops-fit 0 (blk .pc0) (opsOf blk) (omega (arith, ops-count blk ck)) pc0 (ck .ops))
+    let pc0 : blk .pc0 < 4294967296 = ck .pc0 in
+    let ops = ops-fit 0 (blk .pc0) (opsOf blk) (omega (arith, ops-count blk ck)) pc0 (ck .ops) in
+    ((pc0, omega (arith, ck .count)), fit-append (guardSteps blk) _ (pick-fits (inFlash (blk .pc0)) [] _ tt (pc0, tt)) ops)

@@ -18,13 +18,13 @@ use Rattle.block.specs.Checked.{Checked}
 use Rattle.code.specs.Items.{Sound}
 use Rattle.code.specs.Tree.{Depth, top, under, Var, inner, outer, Fine}
 use Rattle.lowering.specs.declared.RegCache.{RegCache}
-use Rattle.lowering.specs.Instrs.{CPU, CTX, RAM, XIP, DONE, LIMIT, FLAGS, mov, movX, mov32, sub, cmp, and, ldr, str, strX, ldrX, ubfx}
+use Rattle.lowering.specs.Instrs.{CPU, CTX, RAM, XIP, DONE, LIMIT, FLAGS, mov, movX, mov32, sub, cmp, cmpX, and, ldr, str, strX, ldrX, ubfx}
 use Rattle.lowering.specs.Instrs.{addXLsl, br, blr, indexed, lsrI}
 use Rattle.lowering.specs.Cache.{flush}
 use Rattle.lowering.specs.Steps.{Field, sp, rets, Step}
 use Rattle.lowering.specs.Fragments.{fieldAt, addImm, brkFirst, even, loads, tryRegion, extended, alignTest, mapTest, stores, call, exitImm}
-use Rattle.lowering.specs.Fragments.{chain, ind, hold, checkBrk, fork, limit, load, store, stepCode, stepCache, stepsCode, opening}
-use Rattle.lowering.specs.Fragments.{closing}
+use Rattle.lowering.specs.Fragments.{chain, ind, hold, checkBrk, fork, limit, guard, load, store, stepCode, stepCache, stepsCode}
+use Rattle.lowering.specs.Fragments.{OFF-VER, opening, closing}
 use Rattle.bounds.specs.Sound.{Number, Count, StepFits, AllFit}
 use Rattle.bounds.proofs.Fine.{CacheFits, sound-append, is-host, ldr-fits, str-fits, addI-fits, mov-fits, mov32-fits, addImm-fits, ldReg-fits, stReg-fits, flush-fits, reload-fits, seated-fits, stored-fits}
 
@@ -173,6 +173,22 @@ module _ (blk : Block) (ck : Checked blk) (rc : RegCache) (cf : CacheFits rc) wh
   unfolding Fine limit Sound
   limit-fine n pc count h k = ((addI-fits 9 DONE count (omega arith) (omega arith) k, (true-carried (cmp 9 LIMIT) tt, tt)), (omega arith, exit-fine (under n) pc 0 h (omega arith)))
 
+  guard-fine : (n : Depth) (at helper pc : ℕ) → Number pc → Fine (guard blk rc {n = n} at helper pc)
+  unfolding Fine guard
+  guard-fine n at helper pc h = (
+    sound-by (ldrX 9 CTX OFF-VER ∷ []) tt,
+    (
+      omega arith,
+      (
+        sound-by (ldrX 10 1 0 ∷ cmpX 9 10 ∷ []) tt,
+        (
+          omega arith,
+          (sound-by (movX 0 CTX ∷ []) tt, (call-fine (under n) helper, (omega arith, exit-fine (under n) pc 0 h (omega arith)))),
+        ),
+      ),
+    ),
+  )
+
   load-fine : (n : Depth) (w : Width) (signed : Bool) (i : ℕ) → Count i → Fine (load blk rc {n = n} w signed i)
   unfolding Fine load Sound
   load-fine n w signed i k = (
@@ -223,6 +239,7 @@ module _ (blk : Block) (ck : Checked blk) (rc : RegCache) (cf : CacheFits rc) wh
   step-fine n (Step.fork cond pc target count) h = fork-fine n cond pc target count (h .0) (h .1) (h .2) (h .3)
   step-fine n (Step.ind t count brk) h = ind-fine n t count brk (is-host t (h .0)) (h .1)
   step-fine n (Step.limit pc count) h = limit-fine n pc count (h .0) (h .1)
+  step-fine n (Step.guard at helper pc) h = guard-fine n at helper pc h
 
 pub cache-fits : (rc : RegCache) (s : Step) → CacheFits rc → StepFits s → CacheFits (stepCache rc s)
 unfolding stepCache
@@ -240,6 +257,7 @@ cache-fits rc (Step.chain pc count) c h = c
 cache-fits rc (Step.fork cond pc target count) c h = c
 cache-fits rc (Step.ind t count brk) c h = c
 cache-fits rc (Step.limit pc count) c h = c
+cache-fits rc (Step.guard at helper pc) c h = c
 
 pub steps-fine : (blk : Block) → Checked blk → (rc : RegCache) (ss : List Step) → CacheFits rc → AllFit ss → Fine (stepsCode blk rc ss)
 unfolding stepsCode Fine Sound

@@ -1,25 +1,30 @@
--- A block has at most three literals: the two helpers' addresses and the table's. A pool of distinct numbers among three has at most
--- three; the invariant: its length is at most the number of the three that stand in it.
+-- A block has at most five literals: the three helpers' addresses, the table's and the guard's. The invariant: a pool's length is at most
+-- the number of the five that stand in it.
 use mathlib.Core.Path.{_≡_, refl, sym, subst, _∙_}
 use mathlib.Core.Bool.{Bool, true, false, _&&_}
-use mathlib.Core.List.{List, [], _∷_, map}
-use Prim.Native.Nat.{ℕ, suc, _+_, _≤_}
+use mathlib.Core.List.{List, [], _∷_, _++_, map}
+use Prim.Native.Nat.{ℕ, zero, suc, _+_, _<_, _≤_}
 use native.Mathlib.Omega.{arith}
 use lib.Dec.{eqb}
-use lib.ListN.{length}
+use lib.ListN.{length, getD}
 use borrow.Author.Tests.{eq-eqb}
 use Rattle.arm.specs.declared.Instr.{Instr}
 use Rattle.block.specs.declared.Width.{Width}
 use Rattle.block.specs.declared.Width.the-variants.{Byte as B8, Half as B16, Word as B32}
 use Rattle.block.specs.declared.Block.{Block}
+use Rattle.block.specs.Block.{opsOf, inFlash}
+use Rattle.block.specs.Checked.{Checked}
 use Rattle.code.specs.Items.{pick, add}
 use Rattle.code.specs.Tree.{Depth, top, Var, Code, code, lit, to, exit, block, start, _then_, words, inside, lines, nowhere, wholeLines}
 use Rattle.code.specs.Tree.{plain, back, poolIn}
 use Rattle.code.proofs.Tree.{poolIn-append, poolIn-plain}
 use Rattle.lowering.specs.declared.RegCache.{RegCache}
-use Rattle.lowering.specs.Steps.{Step}
-use Rattle.lowering.specs.Fragments.{brkFirst, tryRegion, alignTest, mapTest, call, exitImm, chain, ind, checkBrk, fork, limit}
+use Rattle.lowering.specs.Cache.{emptyCache}
+use Rattle.lowering.specs.Steps.{Step, opsSteps, blockSteps}
+use Rattle.lowering.specs.Fragments.{brkFirst, tryRegion, alignTest, mapTest, call, exitImm, chain, ind, checkBrk, fork, limit, guard}
 use Rattle.lowering.specs.Fragments.{load as loadCode, store, stepCode, stepCache, stepsCode}
+use Rattle.bounds.proofs.Cost.{Measure, costOf, total}
+use Rattle.bounds.proofs.Count.{unguarded}
 
 -- 1 if a number stands in a list
 abbrev has : ℕ → List ℕ → ℕ
@@ -75,24 +80,35 @@ Literals P (block c) = Literals P c
 Literals P (start rd c) = Literals P c
 Literals P (c then d) = Literals P c × Literals P d
 
-module _ (a b c : ℕ) where
+-- how many of these stand in a list
+abbrev standing : List ℕ → List ℕ → ℕ
+standing [] ps = 0
+standing (v ∷ vs) ps = has v ps + standing vs ps
+
+standing-le : (vs ps : List ℕ) → standing vs ps ≤ length vs
+standing-le [] ps = omega arith
+standing-le (v ∷ vs) ps = omega (arith, has-le v ps, standing-le vs ps)
+
+standing-more : (vs : List ℕ) (v : ℕ) (ps : List ℕ) → standing vs ps ≤ standing vs (add v ps)
+standing-more [] v ps = omega arith
+standing-more (w ∷ vs) v ps = omega (arith, has-more w v ps, standing-more vs v ps)
+
+-- one of these more, unless it stands there
+standing-added : (vs : List ℕ) (i : ℕ) (ps : List ℕ) → i < length vs
+    → suc (standing vs ps) ≤ standing vs (add (getD vs i 0) ps) + has (getD vs i 0) ps
+standing-added [] i ps h = omega arith
+standing-added (v ∷ vs) zero ps h = omega (arith, has-added v ps, standing-more vs v ps)
+standing-added (v ∷ vs) (suc i) ps h = omega (arith, has-more v (getD vs i 0) ps, standing-added vs i ps (omega arith))
+
+module _ (vs : List ℕ) where
   abbrev Few : List ℕ → Type 0
-  Few ps = length ps ≤ has a ps + has b ps + has c ps
+  Few ps = length ps ≤ standing vs ps
 
   abbrev Keeps : ℕ → Type 0
   Keeps v = (ps : List ℕ) → Few ps → Few (add v ps)
 
-  keeps-a : Keeps a
-  keeps-a ps h = omega (arith, add-length a ps, has-added a ps, has-more b a ps, has-more c a ps)
-
-  keeps-b : Keeps b
-  keeps-b ps h = omega (arith, add-length b ps, has-added b ps, has-more a b ps, has-more c b ps)
-
-  keeps-c : Keeps c
-  keeps-c ps h = omega (arith, add-length c ps, has-added c ps, has-more a c ps, has-more b c ps)
-
-  few-three : (ps : List ℕ) → Few ps → length ps ≤ 3
-  few-three ps h = omega (arith, has-le a ps, has-le b ps, has-le c ps)
+  keeps : (i : ℕ) → i < length vs → Keeps (getD vs i 0)
+  keeps i k ps h = omega (arith, add-length (getD vs i 0) ps, standing-added vs i ps k)
 
   few-lines : {n : Depth} (k : Code n) (d : Var n → ℕ) (x : ℕ) (ps : List ℕ) → Literals Keeps k → Few ps → Few (poolIn ps (lines k d x))
   unfolding lines poolIn
@@ -127,40 +143,65 @@ map-none P n false = tt
 map-none P n true = (tt, tt)
 
 module _ (blk : Block) where
-  abbrev Three : ℕ → Type 0
-  Three = Keeps (blk .addresses .«h_read») (blk .addresses .«h_write») (blk .addresses .table)
+  abbrev addresses : List ℕ
+  addresses =
+      blk .addresses .«h_read» ∷ blk .addresses .«h_write» ∷ blk .addresses .table ∷ blk .guard .at ∷ blk .guard .«h_ram_ok» ∷ []
 
-  step-literals : (rc : RegCache) (s : Step) → Literals Three (stepCode blk rc {n = top} s)
+  abbrev OneOfFive : ℕ → Type 0
+  OneOfFive = Keeps addresses
+
+  guard-literals : (rc : RegCache) (pc : ℕ)
+      → Literals OneOfFive (stepCode blk rc {n = top} (Step.guard (blk .guard .at) (blk .guard .«h_ram_ok») pc))
+  unfolding stepCode guard call exitImm
+  guard-literals rc pc =
+      (tt, (keeps addresses 3 (omega arith), (tt, (tt, (tt, ((tt, (keeps addresses 4 (omega arith), tt)), (tt, (tt, tt))))))))
+
+  step-literals : (rc : RegCache) (s : Step) → costOf s Measure.guards ≡ 0 → Literals OneOfFive (stepCode blk rc {n = top} s)
   unfolding stepCode call exitImm chain ind checkBrk fork limit loadCode store tryRegion
-  step-literals rc (Step.ldReg t r) = tt
-  step-literals rc (Step.stReg t r) = tt
-  step-literals rc (Step.ldField f t) = tt
-  step-literals rc (Step.stField f t) = tt
-  step-literals rc (Step.mov32 t v) = tt
-  step-literals rc (Step.addImm d s v) = tt
-  step-literals rc (Step.ins i) = tt
-  step-literals rc (Step.load w signed i) = (((tt, (tt, (tt, tt))), (tt, (tt, (tt, tt)))), (tt, ((tt, (keeps-a _ _ _, tt)), tt)))
-  step-literals rc (Step.store w alone i) =
+  step-literals rc (Step.ldReg t r) z = tt
+  step-literals rc (Step.stReg t r) z = tt
+  step-literals rc (Step.ldField f t) z = tt
+  step-literals rc (Step.stField f t) z = tt
+  step-literals rc (Step.mov32 t v) z = tt
+  step-literals rc (Step.addImm d s v) z = tt
+  step-literals rc (Step.ins i) z = tt
+  step-literals rc (Step.load w signed i) z =
+      (((tt, (tt, (tt, tt))), (tt, (tt, (tt, tt)))), (tt, ((tt, (keeps addresses 0 (omega arith), tt)), tt)))
+  step-literals rc (Step.store w alone i) z =
       let m = blk .memory .map in
-      ((align-none _ _ (alone && m) w, (tt, (tt, (map-none _ _ m, (tt, tt))))), (tt, (tt, (keeps-b _ _ _, tt))))
-  step-literals rc (Step.checkBrk glue pc count) = (tt, (tt, (tt, (tt, tt))))
-  step-literals rc (Step.chain pc count) = (tt, ((tt, tt), (tt, tt)))
-  step-literals rc (Step.fork cond pc target count) = ((tt, (tt, ((tt, tt), (tt, tt)))), (tt, ((tt, tt), (tt, tt))))
-  step-literals rc (Step.ind t count brk) = (tt, ((brk-none _ _ brk, (tt, (keeps-c _ _ _, (tt, (tt, tt))))), (tt, tt)))
-  step-literals rc (Step.limit pc count) = (tt, (tt, (tt, tt)))
+      ((align-none _ _ (alone && m) w, (tt, (tt, (map-none _ _ m, (tt, tt))))), (tt, (tt, (keeps addresses 1 (omega arith), tt))))
+  step-literals rc (Step.checkBrk glue pc count) z = (tt, (tt, (tt, (tt, tt))))
+  step-literals rc (Step.chain pc count) z = (tt, ((tt, tt), (tt, tt)))
+  step-literals rc (Step.fork cond pc target count) z = ((tt, (tt, ((tt, tt), (tt, tt)))), (tt, ((tt, tt), (tt, tt))))
+  step-literals rc (Step.ind t count brk) z =
+      (tt, ((brk-none _ _ brk, (tt, (keeps addresses 2 (omega arith), (tt, (tt, tt))))), (tt, tt)))
+  step-literals rc (Step.limit pc count) z = (tt, (tt, (tt, tt)))
+  step-literals rc (Step.guard at helper pc) z = absurd (omega arith)
 
-  steps-literals : (rc : RegCache) (ss : List Step) → Literals Three (stepsCode blk rc ss)
+  steps-literals : (rc : RegCache) (ss : List Step) → total ss Measure.guards ≡ 0 → Literals OneOfFive (stepsCode blk rc ss)
   unfolding stepsCode
-  steps-literals rc [] = tt
-  steps-literals rc (s ∷ ss) = (step-literals rc s, steps-literals (stepCache rc s) ss)
+  steps-literals rc [] z = tt
+  steps-literals rc (s ∷ ss) z = (step-literals rc s (omega arith), steps-literals (stepCache rc s) ss (omega arith))
 
-  pub three : (is end : List Instr) (rc : RegCache) (ss : List Step) → length (poolIn [] (wholeLines (code is then stepsCode blk rc ss) end)) ≤ 3
+  block-literals : Checked blk → Literals OneOfFive (stepsCode blk emptyCache (blockSteps blk))
+  unfolding stepsCode blockSteps stepCache
+  block-literals ck =
+      let ops : List Step = opsSteps 0 (blk .pc0) (opsOf blk) in
+      let of-ops = steps-literals emptyCache ops (unguarded blk ck) in
+      (step-literals emptyCache (Step.limit (blk .pc0) (blk .n)) refl, by ops of-ops (inFlash (blk .pc0)))
+    where
+      by : (ops : List Step) → Literals OneOfFive (stepsCode blk emptyCache ops) → (u : Bool)
+          → Literals OneOfFive
+          (stepsCode blk emptyCache (pick u [] (Step.guard (blk .guard .at) (blk .guard .«h_ram_ok») (blk .pc0) ∷ []) ++ ops))
+      by ops h true = h
+      by ops h false = (guard-literals emptyCache (blk .pc0), h)
+
+  pub five : Checked blk → (is end : List Instr)
+      → length (poolIn [] (wholeLines (code is then stepsCode blk emptyCache (blockSteps blk)) end)) ≤ 5
   unfolding wholeLines
-  three is end rc ss =
-      let k : Code top = code is then stepsCode blk rc ss in
-      let a = blk .addresses .«h_read» in
-      let b = blk .addresses .«h_write» in
-      let c = blk .addresses .table in
-      subst (λ ps. length ps ≤ 3)
-      (sym (poolIn-append [] (lines k nowhere 0) (map plain end) ∙ poolIn-plain (poolIn [] (lines k nowhere 0)) end))
-      (few-three a b c (poolIn [] (lines k nowhere 0)) (few-lines a b c k nowhere 0 [] (tt, steps-literals rc ss) (omega arith)))
+  five ck is end =
+      let k : Code top = code is then stepsCode blk emptyCache (blockSteps blk) in
+      let ps : List ℕ = poolIn [] (lines k nowhere 0) in
+      let few : Few addresses ps = few-lines addresses k nowhere 0 [] (tt, block-literals ck) (omega arith) in
+      subst (λ qs. length qs ≤ 5) (sym (poolIn-append [] (lines k nowhere 0) (map plain end) ∙ poolIn-plain ps end))
+      (omega (arith, few, standing-le addresses ps))

@@ -21,7 +21,7 @@ use Rattle.lowering.specs.Cache.{POOL, host, FREE, offReg, oldest, isHeld, chos
 use Rattle.lowering.specs.Cache.{reload}
 use Rattle.lowering.specs.Steps.{Step}
 use Rattle.lowering.specs.Fragments.{minus, addImm, brkFirst, even, tryRegion, extended, alignTest, mapTest, call, exitImm, chain, ind}
-use Rattle.lowering.specs.Fragments.{hold, checkBrk, fork, limit, load, store, stepCode, stepCache, stepsCode}
+use Rattle.lowering.specs.Fragments.{hold, checkBrk, fork, limit, guard, load, store, stepCode, stepCache, stepsCode}
 use Rattle.bounds.proofs.Cost.{Measure, Cost, cost, costOf, total}
 
 -- ---- the lists of instructions
@@ -231,6 +231,18 @@ module _ (blk : Block) (rc : RegCache) (n : Depth) where
         tests = λ d x. (tt, (tt, q .tests _ _));
       }
 
+  guard-short : (at helper pc : ℕ) → CostsAtMost (costOf (Step.guard at helper pc)) (guard blk rc {n = n} at helper pc)
+  unfolding guard words labels jumps Tests
+  guard-short at helper pc =
+      let p = call-short blk rc (under n) helper in
+      let q = exit-short blk rc (under n) pc 0 in
+      record {
+        words-le = omega (arith, p .words-le, q .words-le);
+        labels-le = omega (arith, p .labels-le, q .labels-le);
+        jumps-le = omega (arith, p .jumps-le, q .jumps-le);
+        tests = λ d x. (tt, (tt, (tt, (tt, (tt, (p .tests _ _, (tt, q .tests _ _)))))));
+      }
+
   load-short : (w : Width) (signed : Bool) (i : ℕ)
       → CostsAtMost (costOf (Step.load w signed i)) (load blk rc {n = n} w signed i)
   unfolding load words labels jumps Tests
@@ -295,6 +307,7 @@ module _ (blk : Block) (rc : RegCache) (n : Depth) where
   step-short (Step.fork cond pc target count) = fork-short cond pc target count
   step-short (Step.ind t count brk) = ind-short t count brk
   step-short (Step.limit pc count) = limit-short pc count
+  step-short (Step.guard at helper pc) = guard-short at helper pc
 
 -- ---- steps in order
 pub steps-short : (blk : Block) (rc : RegCache) (ss : List Step) → CostsAtMost (total ss) (stepsCode blk rc ss)

@@ -9,15 +9,15 @@ use Rattle.block.specs.declared.Width.{Width}
 use Rattle.block.specs.declared.Width.the-variants.{Byte as B8, Half as B16, Word as B32}
 use Rattle.block.specs.declared.BOp.{BOp}
 use Rattle.block.specs.declared.Block.{Block}
-use Rattle.block.specs.Block.{opsOf, mayJump}
+use Rattle.block.specs.Block.{opsOf, mayJump, inFlash}
 use Rattle.code.specs.Items.{pick, Rise}
 use Rattle.code.specs.Tree.{Depth, top, Code, code, lit, to, exit, block, start, _then_, words}
 use Rattle.code.proofs.Order.{rise-append}
 use Rattle.lowering.specs.declared.RegCache.{RegCache}
 use Rattle.lowering.specs.Cache.{emptyCache}
-use Rattle.lowering.specs.Steps.{Step, behind, opSteps, opsSteps, blockSteps}
-use Rattle.lowering.specs.Fragments.{brkFirst, tryRegion, alignTest, mapTest, call, exitImm, chain, ind, checkBrk, fork, limit, load, store}
-use Rattle.lowering.specs.Fragments.{stepCode, stepCache, stepsCode, opening}
+use Rattle.lowering.specs.Steps.{Step, behind, opSteps, opsSteps, guardSteps, blockSteps}
+use Rattle.lowering.specs.Fragments.{brkFirst, tryRegion, alignTest, mapTest, call, exitImm, chain, ind, checkBrk, fork, limit, guard}
+use Rattle.lowering.specs.Fragments.{load, store, stepCode, stepCache, stepsCode, opening}
 use Rattle.lowering.specs.Compile.{blockCode, starts, targets}
 use Rattle.lowering.proofs.Targets.{targets-append}
 use Rattle.bounds.specs.Whole.{Sited}
@@ -110,7 +110,7 @@ store-none w false i = refl
 
 module _ (blk : Block) (rc : RegCache) where
   step-sites : (s : Step) → Sites s (stepCode blk rc {n = top} s)
-  unfolding stepCode call exitImm chain ind checkBrk fork limit load store tryRegion starts
+  unfolding stepCode call exitImm chain ind checkBrk fork limit guard load store tryRegion starts
   step-sites (Step.ldReg t r) = none-here _ _ refl refl tt
   step-sites (Step.stReg t r) = none-here _ _ refl refl tt
   step-sites (Step.ldField f t) = none-here _ _ refl refl tt
@@ -129,6 +129,8 @@ module _ (blk : Block) (rc : RegCache) where
       record { flat = ((tt, (tt, ((tt, tt), (tt, tt)))), (tt, ((tt, tt), (tt, tt)))); many = λ p. refl; aims = refl }
   step-sites (Step.ind t count brk) = none-here _ _ refl refl (tt, ((flat-brk _ brk, (tt, (tt, (tt, (tt, tt))))), (tt, tt)))
   step-sites (Step.limit pc count) = none-here _ _ refl refl (tt, (tt, (tt, tt)))
+  step-sites (Step.guard at helper pc) =
+      none-here _ _ refl refl (tt, (tt, (tt, (tt, (tt, ((tt, (tt, tt)), (tt, (tt, tt))))))))
 
 steps-flat : (blk : Block) (rc : RegCache) (ss : List Step) → Flat (stepsCode blk rc ss)
 unfolding stepsCode
@@ -172,9 +174,21 @@ code-many : (blk : Block) → length (starts (blockCode blk) 0) ≡ length (targ
 unfolding blockCode starts words
 code-many blk = steps-many blk emptyCache (blockSteps blk) (0 + length opening) ∙ sym (steps-aims blk (blockSteps blk))
 
+guard-none : (u : Bool) (at helper pc : ℕ) → total (pick u [] (Step.guard at helper pc ∷ [])) Measure.sites ≡ 0
+guard-none true at helper pc = refl
+guard-none false at helper pc = refl
+
 block-two : (blk : Block) → length (targets (blockSteps blk)) ≤ 2
 unfolding blockSteps
-block-two blk = omega (arith, steps-aims blk (blockSteps blk), ops-two 0 (blk .pc0) (opsOf blk))
+block-two blk =
+    let ops : List Step = opsSteps 0 (blk .pc0) (opsOf blk) in
+    omega (
+      arith,
+      steps-aims blk (blockSteps blk),
+      total-append (guardSteps blk) ops Measure.sites,
+      guard-none (inFlash (blk .pc0)) (blk .guard .at) (blk .guard .«h_ram_ok») (blk .pc0),
+      ops-two 0 (blk .pc0) (opsOf blk),
+    )
 
 steps-rise : (blk : Block) → Rise 0 (words (blockCode blk)) (starts (blockCode blk) 0)
 steps-rise blk = subst (λ q. Rise 0 q (starts (blockCode blk) 0)) (omega arith) (flat-rise (blockCode blk) 0 (code-flat blk))

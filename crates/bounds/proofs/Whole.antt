@@ -25,7 +25,7 @@ use Rattle.bounds.proofs.Fragments.{steps-fine, opening-sound, closing-
 use Rattle.bounds.proofs.Cost.{Measure, total}
 use Rattle.bounds.proofs.Short.{CostsAtMost, steps-short}
 use Rattle.bounds.proofs.Count.{block-few, block-fits}
-use Rattle.bounds.proofs.Pool.{three}
+use Rattle.bounds.proofs.Pool.{five}
 
 -- words are decoded to the instructions that they carry
 all-decoded : (is : List Instr) → Sound is → map decode (map encode is) ≡ map valid is
@@ -45,7 +45,7 @@ module _ (blk : Block) (ck : Checked blk) where
   steps : CostsAtMost (total (blockSteps blk)) (stepsCode blk emptyCache (blockSteps blk))
   steps = steps-short blk emptyCache (blockSteps blk)
 
-  code-words : words (blockCode blk) ≤ 28110
+  code-words : words (blockCode blk) ≤ 28148
   unfolding blockCode words opening
   code-words = omega (arith, steps .words-le, block-few blk ck .le Measure.words)
 
@@ -57,9 +57,9 @@ module _ (blk : Block) (ck : Checked blk) where
   unfolding closing
   closing-words = refl
 
-  pool-le : length (poolIn [] (blockLines blk)) ≤ 3
+  pool-le : length (poolIn [] (blockLines blk)) ≤ 5
   unfolding blockLines blockCode
-  pool-le = three blk opening closing emptyCache (blockSteps blk)
+  pool-le = five blk ck opening closing
 
   pub tables : Tables blk
   unfolding blockCode labels jumps

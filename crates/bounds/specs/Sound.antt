@@ -29,6 +29,7 @@ StepFits (Step.chain pc count) = Number pc × Count count
 StepFits (Step.fork cond pc target count) = (cond < 16) × Number pc × Number target × Count count
 StepFits (Step.ind t count brk) = Host t × Count count
 StepFits (Step.limit pc count) = Number pc × Count count
+StepFits (Step.guard at helper pc) = Number pc
 
 abbrev pub AllFit : List Step → Type 0
 AllFit [] = Unit {0}

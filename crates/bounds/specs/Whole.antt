@@ -16,10 +16,10 @@ use Rattle.lowering.specs.Compile.{blockCode, blockLines, blockWords, starts, t
 
 -- the tables: how many words, labels, fix-ups and literals a block has at most
 pub record Tables (blk : Block) : Type 0 where
-  pub words : length (blockLines blk) ≤ 28117
-  pub labels : labels (blockCode blk) ≤ 1571
-  pub jumps : jumps (blockCode blk) ≤ 2629
-  pub literals : length (poolIn [] (blockLines blk)) ≤ 3
+  pub words : length (blockLines blk) ≤ 28155
+  pub labels : labels (blockCode blk) ≤ 1572
+  pub jumps : jumps (blockCode blk) ≤ 2634
+  pub literals : length (poolIn [] (blockLines blk)) ≤ 5
 
 -- its operands fit, and each test of a bit is near
 pub record Carries (blk : Block) : Type 0 where

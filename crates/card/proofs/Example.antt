@@ -1,15 +1,15 @@
 -- The starred lines hold, and blocks computed: a load at RAM's last offset, then a load from outside whose outcome sets the break word; one
--- group each; and unaligned words stored.
+-- group each; unaligned words stored; and the guard of a RAM block.
 use mathlib.Core.Bool.{Bool, true, false, not, _&&_}
 use mathlib.Core.List.{List, [], _∷_}
 use mathlib.Core.Path.{_≡_, refl}
 use Prim.Native.Nat.{ℕ}
 use lib.ListN.{length}
-use Rattle.block.specs.Block.{places, upFrom}
+use Rattle.block.specs.Block.{noGuard, places, upFrom}
 use Rattle.card.specs.Kinds.{Fast, Ld, St, LdPost, Rmw, PushRet, BlockMove, PushRets, PopPc, LdPair, StPair, BOp}
 use Rattle.card.specs.Kinds.{Reg, Sp, B8, B32, RmwAdd, RmwMov, Memory, Block}
 use Rattle.card.specs.Word.{minus, signedOf, signExtend}
-use Rattle.card.specs.Card.{Card, Outcome, Request, read, write}
+use Rattle.card.specs.Card.{Card, Outcome, Request, read, write, guard}
 use Rattle.card.specs.Memory.{readLE, writeLE, inside, load, holdsCode, direct, store}
 use Rattle.card.specs.Step.{exits, chains, loadAll, storeAll, pushAll, popAll, opStep}
 use Rattle.card.specs.Starred.{starred}
@@ -41,6 +41,7 @@ blockOf m os =
       memory = record { «ram_base» = 0x1000; «ram_len» = 8; «xip_base» = 0x2000; «xip_len» = 4; map = m };
       addresses = record { «h_read» = 0; «h_write» = 0; table = 0 };
       pc0 = 0x2000000;
+      guard = noGuard;
       ops = os;
       n = length os;
     }
@@ -52,7 +53,7 @@ abbrev ram : List ℕ
 ram = 1 ∷ 2 ∷ 3 ∷ 4 ∷ 5 ∷ 6 ∷ 7 ∷ 8 ∷ []
 
 abbrev answered : (answer brk : ℕ) → Outcome
-answered a b = record { answer = a; brk = b; ram = ram; map = [] }
+answered a b = record { answer = a; brk = b; ram = ram; map = []; version = 0; guards = [] }
 
 -- rets is 9
 abbrev cardOf : (r1 r2 r3 r4 sp hold : ℕ) → (ram : List ℕ) → (brk pc done : ℕ) → List Request → List Outcome → Card
@@ -65,6 +66,8 @@ cardOf r1 r2 r3 r4 s h bytes brk pc done qs os =
       ram = bytes;
       map = [];
       brk = brk;
+      version = 0;
+      guards = [];
       pc = pc;
       done = done;
       requests = qs;
@@ -159,6 +162,8 @@ mapped r1 s bytes pc done qs os =
       ram = bytes;
       map = 0 ∷ 1 ∷ [];
       brk = 0;
+      version = 0;
+      guards = [];
       pc = pc;
       done = done;
       requests = qs;
@@ -167,7 +172,7 @@ mapped r1 s bytes pc done qs os =
 
 -- an outcome with this RAM
 abbrev leaves : List ℕ → Outcome
-leaves bytes = record { answer = 0; brk = 0; ram = bytes; map = 0 ∷ 1 ∷ [] }
+leaves bytes = record { answer = 0; brk = 0; ram = bytes; map = 0 ∷ 1 ∷ []; version = 0; guards = [] }
 
 -- one operation, with or without a code map, from r1 = 0x1001, r2 = 0x11223344 and an sp, and its outcomes
 abbrev stored : (map : Bool) → Fast → (sp : ℕ) → List Outcome → End
@@ -220,3 +225,99 @@ pub group-direct : (m : Memory) (a : ℕ) (c : Card)
     → direct m B32 false a c ≡ inside B32 (minus a (m .«ram_base»)) (m .«ram_len») && not (holdsCode m (minus a (m .«ram_base»)) c)
 unfolding direct
 group-direct m a c = refl
+
+-- ---- 2026-06: word r2 from r1, in a block at 0x1004, whose RAM starts at 0x1000; its guard stands at 0x5000, behind another block's
+abbrev loads : List BOp
+loads = record { fast = Ld 2 (Reg 1) 0 B32 false; len = 4; glue = false } ∷ []
+
+abbrev startsAt : (pc0 base : ℕ) → Block
+startsAt pc base =
+    record {
+      layout = record { regs = 0; sp = 64; rets = 68; pc = 72; hold = 76 };
+      memory = record { «ram_base» = base; «ram_len» = 8; «xip_base» = 0x2000; «xip_len» = 4; map = false };
+      addresses = record { «h_read» = 0x100; «h_write» = 0x200; table = 0 };
+      pc0 = pc;
+      guard = record { at = 0x5000; «h_ram_ok» = 0x300 };
+      ops = loads;
+      n = 1;
+    }
+
+-- the versions: the context's, the other block's, the block's own
+abbrev ram-card : (context other own : ℕ) → (r2 : ℕ) → (ram : List ℕ) → (brk pc done : ℕ) → List Request → List Outcome → Card
+ram-card v w g r2 bytes brk pc done qs os =
+    record {
+      regs = cardOf 0x1004 r2 0 0 0 7 bytes brk pc done qs os .regs;
+      sp = 0;
+      rets = 9;
+      hold = 7;
+      ram = bytes;
+      map = [];
+      brk = brk;
+      version = v;
+      guards = record { at = 0x4000; version = w } ∷ record { at = 0x5000; version = g } ∷ [];
+      pc = pc;
+      done = done;
+      requests = qs;
+      outcomes = os;
+    }
+
+-- an outcome that alters RAM's last byte, and leaves the versions 5, 6 and 7
+abbrev now : List ℕ
+now = 1 ∷ 2 ∷ 3 ∷ 4 ∷ 5 ∷ 6 ∷ 7 ∷ 0x18 ∷ []
+
+abbrev says : (answer brk : ℕ) → Outcome
+says a b = record { answer = a; brk = b; ram = now; map = []; version = 5; guards = 6 ∷ 7 ∷ [] }
+
+-- from these versions, with done 10, under a limit
+abbrev guarded-run : (limit : ℕ) → (context other own : ℕ) → List Outcome → End
+guarded-run limit v w g os = run (startsAt 0x1004 0x1000) [] limit (ram-card v w g 0 ram 0 0 10 [] os)
+
+-- equal versions: no request, whatever the other guard's version is
+pub equal-versions
+    : guarded-run 11 0x8000000000000003 4 0x8000000000000003 (says 0 1 ∷ [])
+    ≡ left (chains 0) (ram-card 0x8000000000000003 4 0x8000000000000003 0x08070605 ram 0 0x1008 11 [] (says 0 1 ∷ []))
+unfolding run opsFrom opStep load readLE
+equal-versions = refl
+
+-- versions that differ in the high half alone: the guard's address is the request, and 1 goes on, with the RAM that the outcome gives
+pub high-half-asks
+    : guarded-run 11 0x100000003 0x100000003 3 (says 1 0 ∷ [])
+    ≡ left (chains 0) (ram-card 5 6 7 0x18070605 now 0 0x1008 11 (guard 0x5000 ∷ []) [])
+unfolding run opsFrom opStep load readLE
+high-half-asks = refl
+
+-- 2^31 goes on too; a break word that the guard's outcome sets leaves behind the first operation that uses the bus
+pub breaks-behind
+    : guarded-run 11 1 2 3 (says 0x80000000 1 ∷ [])
+    ≡ left exits (ram-card 5 6 7 0x18070605 now 1 0x1008 11 (guard 0x5000 ∷ []) [])
+unfolding run opsFrom opStep load readLE
+breaks-behind = refl
+
+-- 0: left for the block's address with done as it was, hold too, though the outcome sets the break word
+pub answer-0 : guarded-run 11 1 2 3 (says 0 1 ∷ []) ≡ left exits (ram-card 5 6 7 0 now 1 0x1004 10 (guard 0x5000 ∷ []) [])
+unfolding run
+answer-0 = refl
+
+-- the limit comes first: no request
+pub limit-first : guarded-run 10 1 2 3 (says 0 1 ∷ []) ≡ left exits (ram-card 1 2 3 0 ram 0 0x1004 10 [] (says 0 1 ∷ []))
+unfolding run
+limit-first = refl
+
+-- without an outcome: the card before the guard's test
+pub guard-unmet : guarded-run 11 1 2 3 [] ≡ stopped (ram-card 1 2 3 0 ram 0 0x1004 10 [] [])
+unfolding run
+guard-unmet = refl
+
+-- a flash start, here inside RAM too, has no guard, and the versions mean nothing
+pub flash-start
+    : run (startsAt 0x2000004 0x2000000) [] 11 (ram-card 1 2 3 0 ram 1 0 10 [] (says 0x33 0 ∷ []))
+    ≡ left (chains 0) (ram-card 5 6 7 0x33 now 0 0x2000008 11 (read 0x1004 4 10 ∷ []) [])
+unfolding run opsFrom opStep load readLE
+flash-start = refl
+
+-- a block that ends where RAM does, at 2^32: its pc is then 0
+pub ends-at-top
+    : run (startsAt 0xfffffffc 0xfffffff8) [] 11 (ram-card 3 2 3 0 ram 0 0 10 [] (says 0x33 0 ∷ []))
+    ≡ left (chains 0) (ram-card 5 6 7 0x33 now 0 0 11 (read 0x1004 4 10 ∷ []) [])
+unfolding run opsFrom opStep load readLE
+ends-at-top = refl

@@ -30,4 +30,4 @@ pub use Rattle.block.specs.declared.Layout.{Layout}
 pub use Rattle.block.specs.declared.Memory.{Memory}
 pub use Rattle.block.specs.declared.Addresses.{Addresses}
 pub use Rattle.block.specs.declared.Block.{Block}
-pub use Rattle.block.specs.Block.{opsOf, bytes, usesBus}
+pub use Rattle.block.specs.Block.{opsOf, bytes, usesBus, inFlash}

@@ -1,15 +1,16 @@
 -- A run of a block. Document 01: "The card's definition is fed the block record, start, flash and outcomes, not the words."
-use mathlib.Core.Bool.{Bool, true, false, cond, not, _&&_}
+use mathlib.Core.Bool.{Bool, true, false, cond, not, _&&_, _||_}
 use mathlib.Core.List.{List, [], _∷_}
 use Prim.Native.Nat.{ℕ, suc, _+_}
 use lib.Dec.{ltb, eqb}
 use lib.ListN.{length}
-use Rattle.card.specs.Kinds.{BOp, Block, Memory, opsOf, usesBus}
+use Rattle.card.specs.Kinds.{BOp, Block, Memory, opsOf, usesBus, inFlash}
 use Rattle.card.specs.Word.{plus}
-use Rattle.card.specs.Card.{Card, setHold, arrive}
+use Rattle.card.specs.Card.{guard, Card, setHold, arrive, versionAt}
+use Rattle.card.specs.Memory.{Access, got, unmet, ask}
 use Rattle.card.specs.Step.{Way, exits, chains, After, on, out, starved, opStep}
 
--- The end: how the block left and the card then; or, where a request found no outcome, the card before that operation.
+-- The end: how the block left and the card then; or, where a request found no outcome, the card before that operation or guard.
 pub data End : Type 0 where
   left : Way → Card → End
   stopped : Card → End
@@ -40,9 +41,23 @@ opsFrom m flash i pc (o ∷ os) c =
     let next : ℕ = plus pc (o .len) in
     andThen (checked o i next (opStep m flash i next (o .fast) c)) (arrive pc i c) (λ c₁. opsFrom m flash (suc i) next os c₁)
 
+-- ---- 2026-06: the guard of a RAM block
+-- the answer: "exit with nothing done if the helper answers 0"; before is the card where there is none
+abbrev pub guarded : Access → (before : Card) → (pc : ℕ) → (Card → End) → End
+guarded unmet before pc f = stopped before
+guarded (got v c) before pc f = cond (eqb v 0) (left exits (arrive pc 0 c)) (f c)
+
+-- "straight after the limit test: equal versions .. go on without a request; otherwise the guard's address is the request". A flash
+-- block has no guard
+abbrev pub guardTest : Block → Card → (Card → End) → End
+guardTest b c f =
+    cond (inFlash (b .pc0) || eqb (c .version) (versionAt (c .guards) (b .guard .at)))
+    (f c)
+    (guarded (ask (guard (b .guard .at)) (c .outcomes) c) (arrive (b .pc0) 0 c) (b .pc0) f)
+
 -- "If done plus operations exceeds the start's limit, nothing runs"
 unfoldable pub run : Block → (flash : List ℕ) → (limit : ℕ) → Card → End
 run b flash limit c =
     cond (ltb limit (c .done + length (opsOf b)))
     (left exits (arrive (b .pc0) 0 c))
-    (opsFrom (b .memory) flash 0 (b .pc0) (opsOf b) c)
+    (guardTest b c (λ c₁. opsFrom (b .memory) flash 0 (b .pc0) (opsOf b) c₁))

@@ -10,4 +10,5 @@ pub mod Pushes
 pub mod Pops
 pub mod PairLoads
 pub mod PairStores
+pub mod Guards
 pub mod Whole

@@ -2,19 +2,19 @@
 use mathlib.Core.Bool.{true, false}
 use mathlib.Core.List.{List, [], _∷_}
 use mathlib.Core.Path.{_≡_, refl}
-use Rattle.block.specs.declared.Op.the-variants.{Add, Sub, RSub}
-use Rattle.block.specs.declared.RmwOp.the-variants.{Add as RmwAdd, Sub as RmwSub, Mov as RmwMov}
+use Rattle.block.specs.declared.Op.the-variants.{Add, Sub, RSub, Xor}
+use Rattle.block.specs.declared.RmwOp.the-variants.{Or as RmwOr, Add as RmwAdd, Sub as RmwSub, Mov as RmwMov}
 use Rattle.block.specs.declared.Cond.the-variants.{GtU, GtS, LeS}
 use Rattle.block.specs.declared.Base.the-variants.{Reg, Sp}
 use Rattle.block.specs.declared.Width.the-variants.{Byte as B8, Half as B16, Word as B32}
-use Rattle.block.specs.declared.Rk.the-variants.{Bit as RkBit}
-use Rattle.block.specs.declared.Part.the-variants.{Byte as PartByte}
+use Rattle.block.specs.declared.Rk.the-variants.{Reg as RkReg, Bit as RkBit}
+use Rattle.block.specs.declared.Part.the-variants.{Byte as PartByte, Half as PartHalf}
 use Rattle.block.specs.declared.Choice.the-variants.{MaxU}
 use Rattle.block.specs.declared.DivKind.the-variants.{RemU}
-use Rattle.block.specs.declared.Fast.the-variants.{Nop, MovI, Mov, AddRI, SarI, Alu3, Ext, MinMax}
-use Rattle.block.specs.declared.Fast.the-variants.{Div, SpAdd, Ld, St, LdIdx, LdPost, StPost, Rmw}
-use Rattle.block.specs.declared.Fast.the-variants.{PopRets, BrI, BrR, BitBr, Call, Rts, CallR, BlockMove}
-use Rattle.block.specs.declared.Fast.the-variants.{PushRets, PopPc, LdPair, StPair}
+use Rattle.block.specs.declared.Fast.the-variants.{Nop, MovI, Mov, AddRI, ShlI, SarI, Alu3, Alu2I}
+use Rattle.block.specs.declared.Fast.the-variants.{A4, Ext, MinMax, Div, SpAdd, Ld, St, LdIdx}
+use Rattle.block.specs.declared.Fast.the-variants.{LdPost, StPost, Rmw, PushRet, PopRets, BrI, BrR, BitBr}
+use Rattle.block.specs.declared.Fast.the-variants.{Call, Rts, CallR, BlockMove, PushRets, PopPc, LdPair, StPair}
 use Rattle.block.specs.Block.{places, upFrom}
 use Rattle.card.specs.Card.{read, write}
 use Rattle.card.specs.Word.{signedOf, signExtend, leadingZeros}
@@ -22,7 +22,8 @@ use Rattle.card.specs.Memory.{readLE, writeLE, load, direct, store}
 use Rattle.card.specs.Step.{opStep, loadAll, storeAll, pushAll, popAll}
 use Rattle.card.specs.Run.{opsFrom, run}
 use Rattle.card_runs.specs.Case.{Case, runs, reached, expected, block, memory, op, hex, regs, card}
-use Rattle.card_runs.specs.Case.{outcome, entry, byReturn, byTable, byChain, reg, sp, rets, hold, brk, pc, done, ram, map, _&_}
+use Rattle.card_runs.specs.Case.{guarded, outcome, leaving, versions, entry, byReturn, byTable, byChain, reg, sp, rets, hold}
+use Rattle.card_runs.specs.Case.{brk, pc, done, version, guardVersion, ram, map, _&_}
 
 abbrev cases : List Case
 cases =
@@ -178,6 +179,22 @@ cases =
     & reg 13 0 & reg 15 0x20000008 & sp 0x28000015 & rets 0x2f840c9 & pc 0x20000008 & done 0xd
     & ram (hex 16 0x006ed92c67c8ed19cf056242eefcac7a)) (read 0x2000000d 4 2 ∷ read 0x20000011 4 4 ∷ read 0x20000015 4 4
     ∷ read 0xa4fdf8df 2 6 ∷ write 0xa4fdf8df 2 6 0x8010010 ∷ read 0x2000000d 4 8 ∷ read 0x20000011 4 8 ∷ read 0x10000023 4 0xb ∷ [])
+    -- all/06-mixed-12/0
+    ∷ runs (guarded 0xa000000024 (block (memory 0x1000000 0x10 0x8000000 0x10 false) 0x1000000 (op PushRet 0 true
+    ∷ op (ShlI 5 8 0x3f) 1 false ∷ op (St 9 (Reg 9) 0xfffffffc B16) 2 true ∷ op Nop 2 false ∷ op (Ext 6 0xc PartHalf false) 0 false
+    ∷ op (A4 9 1 Sub RkReg 0xe4bd6d0a) 0 false ∷ op (StPost 0xa 2 B16 0x12345) 0 false ∷ op (Alu2I 3 0x12345 Xor) 1 true
+    ∷ op (SarI 0 1 4) 0 false ∷ op (Rmw 0xc B16 RmwOr 2 0xffffffe3) 2 false ∷ op (MovI 9 0xa3858a98) 2 true ∷ op (Call 0x100000e) 1 true
+    ∷ []))) (hex 16 0xd6398251e33ea240b4d395fcd3f8aa93) 0xffffffff
+    (versions 5 0xa000000024 5 (card (regs 0x010000080100000507fffffc0800001407fffffd00fff00001000011a27ac3c3
+    0x0800000d00fffffd08000001000100000100000807fffffe080000080100000a) 0x100000c 0xfffff000 2 0 0x8aa00107 0
+    (hex 16 0x359fc61c8ef8a83ddb89416ad3adb880) []
+    (leaving 0x9114be8472ecd324 0x348b85f421f9192e (outcome 0x5ea0 0 (hex 16 0x359fc61c8ef8a851d2f0ffffd3adb880) [])
+    ∷ leaving 0x73f1c9f44c73c06 0x9a76960a6d3e5480 (outcome 0xdef6 0 (hex 16 0x359fc61c8ef8a851d2f0ffffd3adb880) [])
+    ∷ leaving 4 3 (outcome 0xa 1 (hex 16 0xfc91028f75e9973c6ee0a3c8e3aee485) [])
+    ∷ leaving 0 3 (outcome 0xee 0xffffffff (hex 16 0xe871888710ec0908c8862da3e72f1bc1) []) ∷ [])))
+    [] (byChain 0) (reg 0 0x100000 & reg 2 0x8012341 & reg 3 0x8012351 & reg 5 0x80000000 & reg 6 8 & reg 9 0xa3858a98 & sp 0x1000008
+    & rets 0x100000b & pc 0x100000e & done 0xc & version 0x73f1c9f44c73c06 & guardVersion 0x9a76960a6d3e5480
+    & ram (hex 16 0x359fc61c8ef8a851d2f0ffffd3adb880)) (write 0xfffff9 2 2 0xfffffd ∷ write 0x7fffffc 2 6 0x8000001 ∷ [])
     ∷ []
 
 pub all-reach : reached cases ≡ expected cases

@@ -1,19 +1,21 @@
 -- A block, emitted piece by piece.
 use mathlib.Core.Path.{_≡_, refl, sym, ap, ap₂, subst, _∙_}
+use mathlib.Core.Bool.{Bool, true, false}
 use mathlib.Core.List.{List, [], _∷_, _++_}
 use Prim.Native.Nat.{ℕ, _≤_}
 use lib.ListN.{take, length}
 use lib.Seq.{take-all}
+use Rattle.block.specs.declared.Guard.{Guard}
 use Rattle.block.specs.declared.Block.{Block}
-use Rattle.block.specs.Block.{opsOf}
+use Rattle.block.specs.Block.{opsOf, inFlash}
 use Rattle.block.specs.Checked.{Checked}
-use Rattle.code.specs.Items.{new, bind}
+use Rattle.code.specs.Items.{pick, new, bind}
 use Rattle.code.specs.Tree.{top, Code, code, _then_, nowhere}
 use Rattle.code.specs.Walk.{walkedWords, OneWalk}
 use Rattle.code.proofs.Walk.{walked-length, one-walk}
 use Rattle.lowering.specs.Cache.{emptyCache}
 use Rattle.lowering.specs.Fragments.{stepsCode, opening, closing}
-use Rattle.lowering.specs.Steps.{Step, opsSteps, blockSteps}
+use Rattle.lowering.specs.Steps.{Step, opsSteps, guardSteps, blockSteps}
 use Rattle.lowering.specs.Compile.{blockCode, blockLines, blockWords, starts, targets}
 use Rattle.asm.specs.declared.Asm.{Asm}
 use Rattle.asm.specs.declared.Made.{Made}
@@ -29,7 +31,7 @@ use Rattle.finish.proofs.Join.{laid-fits}
 use Rattle.whole.proofs.Whole.{whole-walk, whole-walked, whole-told, whole-starts}
 use Rattle.lower.specs.declared.Lowered.{Lowered}
 use Rattle.lower.specs.Lowers.{atsOf, targetsOf, kept, Lowers}
-use Rattle.lower.proofs.Laws.{then-lowers}
+use Rattle.lower.proofs.Laws.{none-lowers, then-lowers}
 use Rattle.compile.specs.Emitted.{first, Emits}
 
 kept-few : (xs : List ℕ) → length xs ≤ 2 → kept [] xs ≡ xs
@@ -37,16 +39,34 @@ unfolding kept
 kept-few [] h = refl
 kept-few (x ∷ xs) h = take-all 2 (x ∷ xs) h
 
+-- ---- `guarded`
+module _ (blk : Block) (g : Guard) (pc : ℕ) (u : Bool) (e : u ≡ inFlash pc) (ws t : List ℕ) (q : Lowered) where
+  abbrev guards : List Step
+  guards = Step.guard (g .at) (g .«h_ram_ok») pc ∷ []
+
+  abbrev Guards : (ws₁ t₁ : List ℕ) → Lowered → Bool → Type 0
+  Guards ws₁ t₁ r v = Lowers blk (pick v [] guards) ws t q ws₁ t₁ r
+
+  pub in-flash : u ≡ true → Guards ws t q (inFlash pc)
+  in-flash f = subst (Guards ws t q) (sym f ∙ e) (none-lowers blk ws t q)
+
+  pub in-ram : (ws₁ t₁ : List ℕ) (r : Lowered) → u ≡ false → Lowers blk guards ws t q ws₁ t₁ r → Guards ws₁ t₁ r (inFlash pc)
+  in-ram ws₁ t₁ r f h = subst (Guards ws₁ t₁ r) (sym f ∙ e) h
+
 -- ---- `emit`
-module _ (blk : Block) (lent tab ws t ws₁ t₁ ws₂ t₂ : List ℕ) (m : Made) (a : Asm) (q p r : Lowered) (made-is : m ≡ made begin) (opened : state ws t a ≡ emitted opening (state lent tab (m .a)))
-    (begun : (q .a ≡ a) × (q .rc ≡ emptyCache) × (q .sites .n ≡ 0)) (limited : Lowers blk (Step.limit (blk .pc0) (blk .n) ∷ []) ws t q ws₁ t₁ p)
+module _ (blk : Block) (lent tab ws t ws₀ t₀ ws₁ t₁ ws₂ t₂ : List ℕ) (m : Made) (a : Asm) (q o p r : Lowered) (made-is : m ≡ made begin)
+    (opened : state ws t a ≡ emitted opening (state lent tab (m .a))) (begun : (q .a ≡ a) × (q .rc ≡ emptyCache) × (q .sites .n ≡ 0))
+    (limited : Lowers blk (Step.limit (blk .pc0) (blk .n) ∷ []) ws t q ws₀ t₀ o) (guarded : Lowers blk (guardSteps blk) ws₀ t₀ o ws₁ t₁ p)
     (done : Lowers blk (opsSteps 0 (blk .pc0) (opsOf blk)) ws₁ t₁ p ws₂ t₂ r) where
   abbrev body : Code top
   body = stepsCode blk emptyCache (blockSteps blk)
 
   whole : Lowers blk (blockSteps blk) ws t q ws₂ t₂ r
   unfolding blockSteps
-  whole = then-lowers blk (Step.limit (blk .pc0) (blk .n) ∷ []) (opsSteps 0 (blk .pc0) (opsOf blk)) ws t ws₁ t₁ ws₂ t₂ q p r limited done
+  whole =
+      let ops : List Step = opsSteps 0 (blk .pc0) (opsOf blk) in
+      then-lowers blk (Step.limit (blk .pc0) (blk .n) ∷ []) (guardSteps blk ++ ops) ws t ws₀ t₀ ws₂ t₂ q o r limited
+      (then-lowers blk (guardSteps blk) ops ws₀ t₀ ws₁ t₁ ws₂ t₂ o p r guarded done)
 
   opening-is : state ws t (q .a) ≡ afterT (code opening) nowhere 0 (first lent tab)
   opening-is =

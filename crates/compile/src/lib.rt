@@ -1,21 +1,27 @@
-// What `compile` does: the opening words, the limit test, the operations, the common exit, and the end of the assembly.
+// What `compile` does: the opening words, the limit test, the guard, the operations, the common exit, and the end of the assembly.
 ghost use mathlib.Core.Path.{_≡_};
-ghost use mathlib.Core.List.{map};
+ghost use mathlib.Core.List.{map, [], _∷_};
 ghost use Prim.Native.Nat.{_≤_};
 ghost use lib.ListN.{length};
+ghost use Rattle.block.specs.Block.{inFlash};
 ghost use Rattle.block.specs.Checked.{Checked};
-ghost use Rattle.code.specs.Items.{ins as insItem, new as newItem, bind as bindItem};
+ghost use Rattle.code.specs.Items.{pick, ins as insItem, new as newItem, bind as bindItem};
 ghost use Rattle.code.specs.Tree.{nowhere};
 ghost use Rattle.code.specs.Walk.{walkedWords, OneWalk};
 ghost use Rattle.lowering.specs.Cache.{emptyCache};
 ghost use Rattle.lowering.specs.Compile.{blockCode, blockLines, blockWords, starts, targets};
-ghost use Rattle.lowering.specs.Steps.{blockSteps};
+ghost use Rattle.lowering.specs.Given.{given};
+ghost use Rattle.lowering.specs.Steps.{Step as Meant, blockSteps};
 ghost use Rattle.asm.specs.State.{tableRoom};
 ghost use Rattle.finish.specs.Whole.{laid, told};
-ghost use Rattle.lower.specs.Lowers.{atsOf, targetsOf};
+ghost use Rattle.lower.specs.Lowers.{atsOf, targetsOf, Lowers};
 ghost use Rattle.compile.specs.Emitted.{Emits};
 use asm::Asm;
+use block::Addresses;
 use block::Block;
+use block::Guard;
+use block::Layout;
+use block::Memory;
 use finish::Finished;
 use lower::Lowered;
 use lower::Sites;
@@ -50,6 +56,23 @@ fn begun(a: Asm) -> Lowered
     Lowered { a, rc, sites }
 }
 
+// The guard of a block at pc: one outside flash's range has it.
+fn guarded(
+    out: &mut [u32],
+    tab: &mut [u64; 6152],
+    q: Lowered,
+    lay: Layout,
+    g: Guard,
+    pc: u32,
+) -> Lowered
+    ensures { λ r. ⌜ ((mem : Memory) (addr : Addresses) → Lowers (given lay mem addr) (pick (inFlash pc) [] (Meant.guard (g .at) (g .«h_ram_ok») pc ∷ [])) (now (out .entry)) (now (tab .entry)) q (now (out .exit)) (now (tab .exit)) r) ⌝ }
+{
+    if block::in_flash(pc) {
+        return q;
+    }
+    lower::guard(out, tab, q, lay, g, pc)
+}
+
 // Every word of a block, the distances still 0.
 fn emit(out: &mut [u32], tab: &mut [u64; 6152], b: Block) -> Lowered
     ensures { λ r. ⌜ Emits b (now (out .entry)) (now (tab .entry)) (now (out .exit)) (now (tab .exit)) r ⌝ }
@@ -57,6 +80,7 @@ fn emit(out: &mut [u32], tab: &mut [u64; 6152], b: Block) -> Lowered
     let exit = asm::new_label(asm::start());
     let a = jumps::opening(out, tab, exit.a);
     let q = lower::limit(out, tab, begun(a), b.layout, b.pc0, b.n);
+    let q = guarded(out, tab, q, b.layout, b.guard, b.pc0);
     let q = blockops::emit_ops(out, tab, q, b);
     let a = q.a;
     let sites = q.sites;

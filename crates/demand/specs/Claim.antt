@@ -4,13 +4,13 @@ use mathlib.Core.Logic.{_≢_, _⊎_}
 use mathlib.Core.Bool.{true}
 use mathlib.Core.Option.{some}
 use Prim.Native.Nat.{ℕ, _+_, _-_, _*_, _/_, _%_, _^_, _≤_, _<_}
-use lib.ListN.{length, getD}
+use lib.ListN.{length, getD, drop}
 use Rattle.arm.specs.declared.Size.the-variants.{W, X}
 use Rattle.arm.specs.declared.Jump.the-variants.{Blr}
 use Rattle.arm.specs.declared.Instr.the-variants.{BranchReg}
 use Rattle.block.specs.declared.Layout.{Layout}
 use Rattle.block.specs.declared.Block.{Block}
-use Rattle.machine.specs.State.{State, code, stack, processor, context, ram, xip, map, table, R}
+use Rattle.machine.specs.State.{State, code, stack, processor, context, ram, xip, map, table, guards, R}
 use Rattle.machine.specs.Memory.{readLE, bytesOf, baseOf, sizeOf}
 use Rattle.machine.specs.Execute.{Helpers}
 use Rattle.machine.specs.Machine.{Run, running, atReturn, atJump, fetch, instruction, run}
@@ -21,7 +21,7 @@ use Rattle.lowering.specs.declared.Site.{Site}
 use Rattle.lowering.specs.Compile.{blockWords, sites}
 use Rattle.block.specs.Checked.{Checked}
 use Rattle.demand.specs.Outside.{allArm}
-use Rattle.demand.specs.Premises.{Entry, first, body, Premises}
+use Rattle.demand.specs.Premises.{Entry, first, body, ramGuards, Premises}
 
 -- "The jump table has 16,384 entries of 16 bytes, chosen by guest address bits 1 to 14: guest address at byte 0, body at byte 8."
 abbrev pub entryAt : (pc : ℕ) → ℕ
@@ -58,9 +58,11 @@ pub record Equals (lay : Layout) (c : Card) (e : State) : Type 0 where
   pub hold : readLE (bytesOf (e .mem) processor) (lay .hold) 4 ≡ c .hold
   pub ram-is : bytesOf (e .mem) ram ≡ c .ram
   pub requests : e .requests ≡ allArm (c .requests)
-  -- past the demand: the code map and the break word are the card's too
+  -- past the demand: the code map, the break word and the versions are the card's too
   pub map-is : bytesOf (e .mem) map ≡ c .map
   pub brk-is : readLE (bytesOf (e .mem) context) 24 4 ≡ c .brk
+  pub version-is : readLE (bytesOf (e .mem) context) 40 8 ≡ c .version
+  pub guards-are : ramGuards (drop guards (e .mem)) ≡ c .guards
 
 -- an offset of the processor record in none of its five places
 pub record Outside (lay : Layout) (o : ℕ) : Type 0 where
@@ -76,8 +78,9 @@ frameAt first s = s .sp - 96 - baseOf (s .mem) stack
 frameAt body s = s .sp - baseOf (s .mem) stack
 
 -- past the demand: no region has moved or changed its length, and nothing was written outside the named places of processor record and
--- context, the frame, RAM and the code map. Of context and stack this leans on document 01's helper call, which alters neither; the
--- Rust's own helpers write other fields of the context too, and the stack below sp.
+-- context, the frame, RAM and the code map. A guard is not written by the block: its version is the card's, which outcomes alone change,
+-- and its other bytes are as they were. Of context, guards and stack this leans on document 01's helper call, which alters no more of
+-- them than outcomes give; the Rust's own helpers write other fields of the context too, and the stack below sp.
 pub record Untouched (lay : Layout) (entry : Entry) (s e : State) : Type 0 where
   pub bases-are : (i : ℕ) → baseOf (e .mem) i ≡ baseOf (s .mem) i
   pub sizes-are : (i : ℕ) → sizeOf (e .mem) i ≡ sizeOf (s .mem) i
@@ -86,7 +89,8 @@ pub record Untouched (lay : Layout) (entry : Entry) (s e : State) : Type 0 where
   pub table-is : bytesOf (e .mem) table ≡ bytesOf (s .mem) table
   pub stack-is : (o : ℕ) → (o < frameAt entry s) ⊎ (frameAt entry s + 96 ≤ o) → getD (bytesOf (e .mem) stack) o 0 ≡ getD (bytesOf (s .mem) stack) o 0
   pub processor-is : (o : ℕ) → Outside lay o → getD (bytesOf (e .mem) processor) o 0 ≡ getD (bytesOf (s .mem) processor) o 0
-  pub context-is : (o : ℕ) → (o < 24) ⊎ (28 ≤ o) → (o < 32) ⊎ (40 ≤ o) → getD (bytesOf (e .mem) context) o 0 ≡ getD (bytesOf (s .mem) context) o 0
+  pub context-is : (o : ℕ) → (o < 24) ⊎ (28 ≤ o) → (o < 32) ⊎ (48 ≤ o) → getD (bytesOf (e .mem) context) o 0 ≡ getD (bytesOf (s .mem) context) o 0
+  pub guards-is : (k o : ℕ) → guards ≤ k → 8 ≤ o → getD (bytesOf (e .mem) k) o 0 ≡ getD (bytesOf (s .mem) k) o 0
 
 -- the eight bytes at a place of the stack
 abbrev pub stackWord : State → (place : ℕ) → ℕ
@@ -168,7 +172,7 @@ pub record CallsHelper (h : Helpers) (s : State) : Type 0 where
   pub rn : ℕ
   pub fetched : fetch (s .mem) (s .pc) ≡ some word
   pub is-blr : instruction word ≡ some (BranchReg Blr rn)
-  pub to-helper : (R X s rn ≡ h .h-read) ⊎ (R X s rn ≡ h .h-write)
+  pub to-helper : (R X s rn ≡ h .h-read) ⊎ ((R X s rn ≡ h .h-write) ⊎ (R X s rn ≡ h .h-ram-ok))
 
 -- past the demand: every helper is called with the context in register 0, in whatever state t of the run
 abbrev pub CalledInContext : Helpers → State → Type 0

@@ -1,17 +1,19 @@
--- "Premises for a run", document 01: its sentences, in its order.
+-- "Premises for a run", document 01: its sentences, in its order; and what 2026-06 adds.
 use mathlib.Core.Path.{_≡_}
 use mathlib.Core.Logic.{_≢_, _⊎_}
-use mathlib.Core.Bool.{true}
+use mathlib.Core.Bool.{true, false}
 use mathlib.Core.List.{List, [], _∷_}
 use Prim.Native.Nat.{ℕ, _+_, _*_, _/_, _%_, _^_, _≤_, _<_}
-use lib.ListN.{length}
+use lib.ListN.{length, getD, drop}
 use Rattle.arm.specs.declared.Size.the-variants.{W, X}
 use Rattle.block.specs.declared.Layout.{Layout}
+use Rattle.block.specs.declared.Guard.{Guard}
 use Rattle.block.specs.declared.Block.{Block}
-use Rattle.machine.specs.State.{State, Outcome, code, stack, processor, context, ram, xip, map, table, R}
+use Rattle.block.specs.Block.{inFlash}
+use Rattle.machine.specs.State.{Region, State, Outcome, code, stack, processor, context, ram, xip, map, table, guards, R}
 use Rattle.machine.specs.Memory.{readLE, bytesOfWords, bytesOf, baseOf, sizeOf, Apart}
 use Rattle.machine.specs.Execute.{Helpers}
-use Rattle.card.specs.Card.{Card, reg}
+use Rattle.card.specs.Card.{RamGuard, Card, reg}
 use Rattle.card.specs.Run.{stopped}
 use Rattle.card.specs.Run.{run as runCard}
 use Rattle.lowering.specs.Compile.{blockWords, bodyOffset}
@@ -69,13 +71,32 @@ pub record PlacesIn (lay : Layout) (size : ℕ) : Type 0 where
 
 -- an address in none of the places
 abbrev pub Elsewhere : State → ℕ → Type 0
-Elsewhere s a = (i : ℕ) → i < 8 → (a < baseOf (s .mem) i) ⊎ (baseOf (s .mem) i + sizeOf (s .mem) i ≤ a)
+Elsewhere s a = (i : ℕ) → i < length (s .mem) → (a < baseOf (s .mem) i) ⊎ (baseOf (s .mem) i + sizeOf (s .mem) i ≤ a)
 
--- "the break word, RAM and map afterwards"
+-- ---- guards
+-- the regions behind the first eight as guards: each at its address, its version the eight bytes from byte 0 on
+abbrev pub ramGuards : List Region → List RamGuard
+ramGuards [] = []
+ramGuards (r ∷ rs) = record { at = r .base; version = readLE (r .bytes) 0 8 } ∷ ramGuards rs
+
+-- a RAM block: its guard is one of them, and "helper addresses differ from each other and lie in none of these" of `h_ram_ok` too
+pub record Guarded (g : Guard) (h : Helpers) (s : State) : Type 0 where
+  pub region : ℕ
+  pub from : guards ≤ region
+  pub inside : region < length (s .mem)
+  pub at : baseOf (s .mem) region ≡ g .at
+  pub h-ram-ok : h .h-ram-ok ≡ g .«h_ram_ok»
+  pub differ-read : h .h-ram-ok ≢ h .h-read
+  pub differ-write : h .h-ram-ok ≢ h .h-write
+  pub elsewhere : Elsewhere s (h .h-ram-ok)
+
+-- "the break word, RAM and map afterwards", and the versions: the context's, and those of the guards in their order, as many as it gives
 pub record OutcomeFits (s : State) (o : Outcome) : Type 0 where
   pub brk : o .brk < 2 ^ 32
   pub ram : length (o .ram) ≡ sizeOf (s .mem) ram
   pub map : length (o .map) ≡ sizeOf (s .mem) map
+  pub version : o .version < 2 ^ 64
+  pub guards-lt : (k : ℕ) → getD (o .guards) k 0 < 2 ^ 64
 
 abbrev pub AllFit : State → List Outcome → Type 0
 AllFit s [] = Unit {0}
@@ -83,9 +104,9 @@ AllFit s (o ∷ os) = OutcomeFits s o × AllFit s os
 
 -- for a run of these words
 pub record PremisesOn (ws : List ℕ) (b : Block) (h : Helpers) (entry : Entry) (limit : ℕ) (c : Card) (s : State) : Type 0 where
-  -- the machine has 31 general registers, eight regions and has counted nothing; sp is a 64-bit number
+  -- the machine has 31 general registers, eight regions and the guards, and has counted nothing; sp is a 64-bit number
   pub registers : length (s .x) ≡ 31
-  pub regions : length (s .mem) ≡ 8
+  pub regions : guards ≤ length (s .mem)
   pub count : s .count ≡ 0
   pub sp-lt : s .sp < 2 ^ 64
   -- "its words as they were written"
@@ -96,6 +117,8 @@ pub record PremisesOn (ws : List ℕ) (b : Block) (h : Helpers) (entry : Entry) 
   pub ram-is : bytesOf (s .mem) ram ≡ c .ram
   pub map-is : bytesOf (s .mem) map ≡ c .map
   pub brk-is : readLE (bytesOf (s .mem) context) 24 4 ≡ c .brk
+  pub version-is : readLE (bytesOf (s .mem) context) 40 8 ≡ c .version
+  pub guards-are : ramGuards (drop guards (s .mem)) ≡ c .guards
   pub none-yet : s .requests ≡ []
   pub none-yet-card : c .requests ≡ []
   -- "Start at the first word .. or at the body"
@@ -104,7 +127,7 @@ pub record PremisesOn (ws : List ℕ) (b : Block) (h : Helpers) (entry : Entry) 
   pub done-lt : c .done + b .n < 2 ^ 32
   -- "Arm's sp is 16-aligned"
   pub aligned : s .sp % 16 ≡ 0
-  -- "Code, stack, processor record, context, RAM, XIP, code map and jump table lie apart"
+  -- "Code, stack, processor record, context, RAM, XIP, code map and jump table lie apart"; "the guard record lies apart from the rest"
   pub apart : Apart (s .mem)
   pub places : PlacesIn (b .layout) (sizeOf (s .mem) processor)
   pub ram-size : sizeOf (s .mem) ram ≡ b .memory .«ram_len»
@@ -119,12 +142,15 @@ pub record PremisesOn (ws : List ℕ) (b : Block) (h : Helpers) (entry : Entry) 
   pub differ : h .h-write ≢ h .h-read
   pub read-elsewhere : Elsewhere s (h .h-read)
   pub write-elsewhere : Elsewhere s (h .h-write)
+  -- a guard has its version
+  pub guard-sizes : (k : ℕ) → guards ≤ k → k < length (s .mem) → 8 ≤ sizeOf (s .mem) k
+  pub guarded : inFlash (b .pc0) ≡ false → Guarded (b .guard) h s
   -- "The outside is a list of outcomes, long enough": the card does not stop for want of one
   pub outcomes : c .outcomes ≡ allCard (s .outcomes)
   pub fit : AllFit s (s .outcomes)
   pub enough : (d : Card) → runCard b (bytesOf (s .mem) xip) limit c ≢ stopped d
-  -- "The context has the break word at byte 24 and the slot at byte 32."
-  pub context-size : 40 ≤ sizeOf (s .mem) context
+  -- "The context has the break word at byte 24 and the slot at byte 32", and the version at byte 40
+  pub context-size : 48 ≤ sizeOf (s .mem) context
   -- "The jump table has 16,384 entries of 16 bytes"
   pub table-size : sizeOf (s .mem) table ≡ 16384 * 16
   pub table-at : baseOf (s .mem) table ≡ b .addresses .table

@@ -1,5 +1,6 @@
 -- What the examples have in common.
---     blockOf, checked-of              blocks with the same fields 01 to 04, and what holds of every accepted block
+--     blockAt, checked-at              blocks with the same fields 01 and 02, and what holds of every accepted block; blockOf, checked-of:
+--                                      flash blocks with the same fields 01 to 04
 --     recordOf, memoryOf, startOf      the card in the processor record; region i from (i + 1) * 2^20 on; a state that has counted nothing
 --     apart-of, elsewhere-of           the regions lie apart, and the helpers' addresses in none of them
 --     not-stopped                      a card that leaves has outcomes enough
@@ -15,9 +16,11 @@ use lib.Dec.{leb}
 use lib.ListN.{length, replicate}
 use Rattle.block.specs.declared.Fast.the-variants.{Nop}
 use Rattle.block.specs.declared.BOp.{BOp}
+use Rattle.block.specs.declared.Addresses.{Addresses}
+use Rattle.block.specs.declared.Guard.{Guard}
 use Rattle.block.specs.declared.Block.{Block}
-use Rattle.block.specs.Block.{opsOf, moved}
-use Rattle.block.specs.Checked.{OpsFit, NoneAfterJump, GroupsFit, Checked}
+use Rattle.block.specs.Block.{opsOf, moved, inFlash, noGuard, lengths}
+use Rattle.block.specs.Checked.{AddressesFit, GuardFits, InRam, OpsFit, NoneAfterJump, GroupsFit, Checked}
 use Rattle.machine.specs.State.{Region, Outcome, State}
 use Rattle.machine.specs.Memory.{readLE, bytesOfWords, baseOf, sizeOf, Apart, Disjoint}
 use Rattle.machine.specs.Execute.{Helpers}
@@ -32,16 +35,22 @@ padded zero os = []
 padded (suc k) [] = record { fast = Nop; len = 0; glue = false } ∷ padded k []
 padded (suc k) (o ∷ os) = o ∷ padded k os
 
-abbrev pub blockOf : (map : Bool) → List BOp → Block
-blockOf m os =
+abbrev pub blockAt : (pc : ℕ) → Addresses → Guard → (map : Bool) → List BOp → Block
+blockAt pc a g m os =
     record {
       layout = record { regs = 0; sp = 64; rets = 68; pc = 72; hold = 76 };
       memory = record { «ram_base» = 0x20000000; «ram_len» = 64; «xip_base» = 0x02000000; «xip_len» = 16; map = m };
-      addresses = record { «h_read» = 0x900000; «h_write» = 0xa00000; table = 0x800000 };
-      pc0 = 0x02000100;
+      addresses = a;
+      pc0 = pc;
+      guard = g;
       ops = padded 32 os;
       n = length os;
     }
+
+-- a flash block
+abbrev pub blockOf : (map : Bool) → List BOp → Block
+blockOf =
+    blockAt 0x02000100 (record { «h_read» = 0x900000; «h_write» = 0xa00000; table = 0x800000 }) noGuard
 
 padded-length : (k : ℕ) (os : List BOp) → length (padded k os) ≡ k
 padded-length zero os = refl
@@ -62,9 +71,17 @@ groups-fit m os (o ∷ qs) e = by (leb (moved (o .fast)) 4) refl e (groups-fit m
     by true h k g = let l : moved (o .fast) ≤ 4 = leb-true (moved (o .fast)) 4 h in ((omega arith, omega arith), g k)
     by false h k g = absurd (let z : _≡_ {A = ℕ} 0 1 = cc in omega arith)
 
-pub checked-of : (m : Bool) (os : List BOp) → length os ≤ 32
-    → OpsFit (opsOf (blockOf m os)) → NoneAfterJump (opsOf (blockOf m os)) → few (opsOf (blockOf m os)) ≡ true → Checked (blockOf m os)
-checked-of m os l f n g =
+-- what each block says of its own
+pub record Own (b : Block) : Type 0 where
+  pub addresses : AddressesFit (b .addresses)
+  pub pc0 : b .pc0 < 2 ^ 32
+  pub in-ram : inFlash (b .pc0) ≡ false → InRam (b .memory) (b .pc0) (lengths (opsOf b))
+  pub guard : GuardFits (b .guard)
+
+pub checked-at : (pc : ℕ) (a : Addresses) (g : Guard) (m : Bool) (os : List BOp) → Own (blockAt pc a g m os) → length os ≤ 32
+    → OpsFit (opsOf (blockAt pc a g m os)) → NoneAfterJump (opsOf (blockAt pc a g m os)) → few (opsOf (blockAt pc a g m os)) ≡ true
+    → Checked (blockAt pc a g m os)
+checked-at pc a g m os own l f n k =
     record {
       layout =
           record {
@@ -89,19 +106,30 @@ checked-of m os l f n g =
             ram = record { long = omega arith; aligned = refl; inside = omega arith };
             xip = record { long = omega arith; aligned = refl; inside = omega arith };
           };
-      addresses = record { h-read = omega arith; h-write = omega arith; table = omega arith };
-      pc0-from = omega arith;
-      pc0-to = omega arith;
+      addresses = own .addresses;
+      pc0 = own .pc0;
+      in-ram = own .in-ram;
+      guard = own .guard;
       count = l;
       size = padded-length 32 os;
       ops = f;
       last-jumps = n;
-      groups = groups-fit m os (opsOf (blockOf m os)) g;
+      groups = groups-fit m os (opsOf (blockAt pc a g m os)) k;
     }
 
--- ---- the machine
+pub checked-of : (m : Bool) (os : List BOp) → length os ≤ 32
+    → OpsFit (opsOf (blockOf m os)) → NoneAfterJump (opsOf (blockOf m os)) → few (opsOf (blockOf m os)) ≡ true → Checked (blockOf m os)
+checked-of m os =
+    checked-at _ _ _ m os (record {
+      addresses = record { h-read = omega arith; h-write = omega arith; table = omega arith };
+      pc0 = omega arith;
+      in-ram = λ e. absurd (let z : _≡_ {A = ℕ} 0 1 = cc in omega arith);
+      guard = record { at = omega arith; h-ram-ok = omega arith };
+    })
+
+-- ---- the machine; a flash block never calls `h_ram_ok`, which may be any address
 abbrev pub helpers : Helpers
-helpers = record { h-read = 0x900000; h-write = 0xa00000 }
+helpers = record { h-read = 0x900000; h-write = 0xa00000; h-ram-ok = 0 }
 
 abbrev region : ℕ → List ℕ → Region
 region b l = record { base = b; bytes = l }
@@ -154,20 +182,18 @@ order (suc i) (suc j) ne = up (order i j (λ e. ne (ap suc e)))
     up (inl h) = inl (omega arith)
     up (inr h) = inr (omega arith)
 
--- the sizes of the eight regions
+abbrev pub Placed : List Region → Type 0
+Placed m = Each (λ i. baseOf m i ≡ suc i * 2 ^ 20) (length m)
+
 abbrev pub Small : List Region → Type 0
-Small m = Each (λ i. sizeOf m i ≤ 2 ^ 20) 8
+Small m = Each (λ i. sizeOf m i ≤ 2 ^ 20) (length m)
 
-module _ (c : Card) (ws cx fl tb : List ℕ) (small : Small (memoryOf c ws cx fl tb)) where
-  abbrev m : List Region
-  m = memoryOf c ws cx fl tb
+module _ (m : List Region) (few-regions : length m ≤ 9) (placed : Placed m) (small : Small m) where
+  bases : (i : ℕ) → i < length m → baseOf m i ≡ suc i * 2 ^ 20
+  bases = each (λ i. baseOf m i ≡ suc i * 2 ^ 20) (length m) placed
 
-  bases : (i : ℕ) → i < 8 → baseOf m i ≡ suc i * 2 ^ 20
-  unfolding Each
-  bases = each (λ i. baseOf m i ≡ suc i * 2 ^ 20) 8 (refl, (refl, (refl, (refl, (refl, (refl, (refl, (refl, tt))))))))
-
-  sizes : (i : ℕ) → i < 8 → sizeOf m i ≤ 2 ^ 20
-  sizes = each (λ i. sizeOf m i ≤ 2 ^ 20) 8 small
+  sizes : (i : ℕ) → i < length m → sizeOf m i ≤ 2 ^ 20
+  sizes = each (λ i. sizeOf m i ≤ 2 ^ 20) (length m) small
 
   pub apart-of : Apart m
   apart-of =
@@ -177,9 +203,14 @@ module _ (c : Card) (ws cx fl tb : List ℕ) (small : Small (memoryOf c ws cx fl
       }
 
   -- the helpers' addresses lie behind all regions
-  pub elsewhere-of : (xs : List ℕ) (sp pc : ℕ) (os : List Outcome) (a : ℕ) → 9 * 2 ^ 20 ≤ a
+  pub elsewhere-of : (xs : List ℕ) (sp pc : ℕ) (os : List Outcome) (a : ℕ) → suc (length m) * 2 ^ 20 ≤ a
       → Elsewhere (startOf xs sp pc m os) a
   elsewhere-of xs sp pc os a k i h = let b = bases i h in let s = sizes i h in inr (omega arith)
+
+-- the eight regions of a flash block
+pub placed-of : (c : Card) (ws cx fl tb : List ℕ) → Placed (memoryOf c ws cx fl tb)
+unfolding Each
+placed-of c ws cx fl tb = (refl, (refl, (refl, (refl, (refl, (refl, (refl, (refl, tt))))))))
 
 -- ---- a card that leaves has outcomes enough
 pub not-stopped : (w : Way) (c : Card) {e : End} → e ≡ left w c → (d : Card) → e ≢ stopped d

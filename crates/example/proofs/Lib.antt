@@ -5,3 +5,6 @@ pub mod Premises
 pub mod LookupStart
 pub mod LookupBoth
 pub mod LookupPremises
+pub mod GuardStart
+pub mod GuardBoth
+pub mod GuardPremises

@@ -16,7 +16,7 @@ use Rattle.lowering.specs.Compile.{bodyOffset}
 use Rattle.lowering.specs.Fragments.{opening}
 use Rattle.block.specs.Checked.{Checked}
 use Rattle.demand.specs.Premises.{body, AtBody, Held, PlacesIn, Elsewhere, Premises}
-use Rattle.example.proofs.Common.{helpers, checked-of, Each, each, Small, apart-of, elsewhere-of, not-stopped}
+use Rattle.example.proofs.Common.{helpers, checked-of, Each, each, Small, placed-of, apart-of, elsewhere-of, not-stopped}
 use Rattle.example.proofs.LookupStart.{ops, block, listing, listing-is, flash, card, context, entry, table, memory, registers, start}
 use Rattle.example.proofs.LookupBoth.{end, card-ends}
 
@@ -49,7 +49,7 @@ small = (
 )
 
 elsewhere : (a : ℕ) → 9 * 2 ^ 20 ≤ a → Elsewhere start a
-elsewhere = elsewhere-of card listing context flash table small registers 0x200010 0x100034 []
+elsewhere = elsewhere-of memory (omega arith) (placed-of card listing context flash table) small registers 0x200010 0x100034 []
 
 -- ---- the card's state stands in the processor record
 held : Held (block .layout) card (bytesOf memory processor)
@@ -68,6 +68,10 @@ held =
 break-set : readLE context 24 4 ≡ 1
 unfolding readLE
 break-set = refl
+
+no-version : readLE context 40 8 ≡ 0
+unfolding readLE
+no-version = refl
 
 places-in : PlacesIn (block .layout) (sizeOf memory processor)
 unfolding bytesOfWords
@@ -98,7 +102,7 @@ pub premises-met : Premises block helpers body 9 card start
 premises-met =
     record {
       registers = refl;
-      regions = refl;
+      regions = omega arith;
       count = refl;
       sp-lt = omega arith;
       words = ap bytesOfWords (sym listing-is);
@@ -107,12 +111,14 @@ premises-met =
       ram-is = refl;
       map-is = refl;
       brk-is = break-set;
+      version-is = no-version;
+      guards-are = refl;
       none-yet = refl;
       none-yet-card = refl;
       starts = at-body;
       done-lt = omega arith;
       aligned = refl;
-      apart = apart-of card listing context flash table small;
+      apart = apart-of memory (omega arith) (placed-of card listing context flash table) small;
       places = places-in;
       ram-size = refl;
       xip-size = refl;
@@ -123,6 +129,8 @@ premises-met =
       differ = λ e. omega (arith, e);
       read-elsewhere = elsewhere 0x900000 (omega arith);
       write-elsewhere = elsewhere 0xa00000 (omega arith);
+      guard-sizes = λ k l m. absurd (omega arith);
+      guarded = λ e. absurd (let z : _≡_ {A = ℕ} 0 1 = cc in omega arith);
       outcomes = refl;
       fit = tt;
       enough = not-stopped looksUp end card-ends;

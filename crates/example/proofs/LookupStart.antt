@@ -57,6 +57,8 @@ card =
       ram = replicate 64 0x11;
       map = [];
       brk = 1;
+      version = 0;
+      guards = [];
       pc = 0x020000f0;
       done = 7;
       requests = [];
@@ -65,7 +67,7 @@ card =
 
 -- ---- the machine: the break word at byte 24 of the context, the slot at byte 32; the target's entry is the table's first
 abbrev pub context : List ℕ
-context = replicate 24 0 ++ (1 ∷ 0 ∷ 0 ∷ 0 ∷ 0 ∷ 0 ∷ 0 ∷ 0 ∷ replicate 8 0x77)
+context = replicate 24 0 ++ (1 ∷ 0 ∷ 0 ∷ 0 ∷ 0 ∷ 0 ∷ 0 ∷ 0 ∷ replicate 8 0x77) ++ replicate 8 0
 
 abbrev pub entry : List ℕ
 entry = 0x00 ∷ 0x80 ∷ 0x00 ∷ 0x02 ∷ 0 ∷ 0 ∷ 0 ∷ 0 ∷ 0x34 ∷ 0x00 ∷ 0x18 ∷ 0 ∷ 0 ∷ 0 ∷ 0 ∷ 0 ∷ []

@@ -14,9 +14,9 @@ use Rattle.card.specs.Card.{reg}
 use Rattle.card.specs.Step.{chains}
 use Rattle.block.specs.Block.{places}
 use Rattle.block.specs.Checked.{Checked}
-use Rattle.demand.specs.Premises.{first, AtFirst, Held, PlacesIn, Elsewhere, Premises}
-use Rattle.example.proofs.Common.{helpers, checked-of, Each, each, Small, apart-of, elsewhere-of, not-stopped}
-use Rattle.example.proofs.Start.{ops, block, listing, listing-is, outside, flash, card, context, table, memory, registers, start}
+use Rattle.demand.specs.Premises.{first, AtFirst, Held, PlacesIn, Elsewhere, OutcomeFits, Premises}
+use Rattle.example.proofs.Common.{helpers, checked-of, Each, each, Small, placed-of, apart-of, elsewhere-of, not-stopped}
+use Rattle.example.proofs.Start.{ops, block, listing, listing-is, outcome, outside, flash, card, context, table, memory, registers, start}
 use Rattle.example.proofs.Both.{end, card-ends}
 
 pub checked : Checked block
@@ -60,7 +60,7 @@ small = (
 )
 
 elsewhere : (a : ℕ) → 9 * 2 ^ 20 ≤ a → Elsewhere start a
-elsewhere = elsewhere-of card listing context flash table small registers 0x200080 0x100000 outside
+elsewhere = elsewhere-of memory (omega arith) (placed-of card listing context flash table) small registers 0x200080 0x100000 outside
 
 -- ---- the card's state stands in the processor record
 held : Held (block .layout) card (bytesOf memory processor)
@@ -79,6 +79,14 @@ held =
 no-break : readLE context 24 4 ≡ 0
 unfolding readLE
 no-break = refl
+
+no-version : readLE context 40 8 ≡ 0
+unfolding readLE
+no-version = refl
+
+fits : (v : ℕ) → OutcomeFits start (outcome v)
+fits v =
+    record { brk = omega arith; ram = refl; map = refl; version = omega arith; guards-lt = λ k. omega arith }
 
 places-in : PlacesIn (block .layout) (sizeOf memory processor)
 unfolding bytesOfWords
@@ -105,7 +113,7 @@ pub premises-met : Premises block helpers first 100 card start
 premises-met =
     record {
       registers = refl;
-      regions = refl;
+      regions = omega arith;
       count = refl;
       sp-lt = omega arith;
       words = ap bytesOfWords (sym listing-is);
@@ -114,12 +122,14 @@ premises-met =
       ram-is = refl;
       map-is = refl;
       brk-is = no-break;
+      version-is = no-version;
+      guards-are = refl;
       none-yet = refl;
       none-yet-card = refl;
       starts = at-first;
       done-lt = omega arith;
       aligned = refl;
-      apart = apart-of card listing context flash table small;
+      apart = apart-of memory (omega arith) (placed-of card listing context flash table) small;
       places = places-in;
       ram-size = refl;
       xip-size = refl;
@@ -130,8 +140,10 @@ premises-met =
       differ = λ e. omega (arith, e);
       read-elsewhere = elsewhere 0x900000 (omega arith);
       write-elsewhere = elsewhere 0xa00000 (omega arith);
+      guard-sizes = λ k l m. absurd (omega arith);
+      guarded = λ e. absurd (let z : _≡_ {A = ℕ} 0 1 = cc in omega arith);
       outcomes = refl;
-      fit = (record { brk = omega arith; ram = refl; map = refl }, (record { brk = omega arith; ram = refl; map = refl }, tt));
+      fit = (fits 0xfeed, (fits 0x8001, tt));
       enough = not-stopped (chains 0) end card-ends;
       context-size = omega arith;
       table-size = table-long;

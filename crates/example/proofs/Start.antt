@@ -94,6 +94,8 @@ outcome v =
       brk = 0;
       ram = after;
       map = replicate 16 0;
+      version = 0;
+      guards = [];
       scratch = replicate 19 0xdead;
       link = 0xbeef;
       nzcv = record { n = true; z = false; c = true; v = false };
@@ -116,6 +118,8 @@ card =
       ram = before;
       map = replicate 16 0;
       brk = 0;
+      version = 0;
+      guards = [];
       pc = 0x02000100;
       done = 0;
       requests = [];
@@ -124,7 +128,7 @@ card =
 
 -- ---- the machine
 abbrev pub context : List ℕ
-context = replicate 40 0
+context = replicate 48 0
 
 abbrev pub table : List ℕ
 table = replicate (16384 * 16) 0

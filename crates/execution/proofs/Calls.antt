@@ -45,18 +45,20 @@ call-line find p (back rd n) r e = cc
 call-line find p (load rt v) r e = cc
 
 -- a call of a helper that does not fail
-in-context : (h : Helpers) (r : ℕ) (s : State) → (R X s r ≡ h .h-read) ⊎ (R X s r ≡ h .h-write) → (exec h (BranchReg Blr r) s ≡ stop fails → ⊥) → R X s 0 ≡ baseOf (s .mem) context
+in-context : (h : Helpers) (r : ℕ) (s : State) → (R X s r ≡ h .h-read) ⊎ ((R X s r ≡ h .h-write) ⊎ (R X s r ≡ h .h-ram-ok)) → (exec h (BranchReg Blr r) s ≡ stop fails → ⊥) → R X s 0 ≡ baseOf (s .mem) context
 unfolding exec
 in-context h r s to k = by (inContext s) refl
   where
-    refused : (a : Bool) → eqb (R X s r) (h .h-read) ≡ a → (R X s r ≡ h .h-read) ⊎ (R X s r ≡ h .h-write) → inContext s ≡ false → exec h (BranchReg Blr r) s ≡ stop fails
-    refused true f t g = rw (f, g) refl
-    refused false f (inl t) g = absurd (let y : true ≡ false = sym (eq-eqb (R X s r) (h .h-read) t) ∙ f in let z : _≡_ {A = ℕ} 0 1 = cc in omega arith)
-    refused false f (inr t) g = rw (f, eq-eqb (R X s r) (h .h-write) t, g) refl
+    refused : (a w : Bool) → eqb (R X s r) (h .h-read) ≡ a → eqb (R X s r) (h .h-write) ≡ w → (R X s r ≡ h .h-read) ⊎ ((R X s r ≡ h .h-write) ⊎ (R X s r ≡ h .h-ram-ok)) → inContext s ≡ false → exec h (BranchReg Blr r) s ≡ stop fails
+    refused true w f v t g = rw (f, g) refl
+    refused false true f v t g = rw (f, v, g) refl
+    refused false false f v (inl t) g = absurd (let y : true ≡ false = sym (eq-eqb (R X s r) (h .h-read) t) ∙ f in let z : _≡_ {A = ℕ} 0 1 = cc in omega arith)
+    refused false false f v (inr (inl t)) g = absurd (let y : true ≡ false = sym (eq-eqb (R X s r) (h .h-write) t) ∙ v in let z : _≡_ {A = ℕ} 0 1 = cc in omega arith)
+    refused false false f v (inr (inr t)) g = rw (f, v, eq-eqb (R X s r) (h .h-ram-ok) t, g) refl
 
     by : (d : Bool) → inContext s ≡ d → R X s 0 ≡ baseOf (s .mem) context
     by true g = eqb-true (R X s 0) (baseOf (s .mem) context) g
-    by false g = absurd (k (refused (eqb (R X s r) (h .h-read)) refl to g))
+    by false g = absurd (k (refused (eqb (R X s r) (h .h-read)) (eqb (R X s r) (h .h-write)) refl refl to g))
 
 -- a line goes on, or ends the run without failing
 abbrev Alive : Res State Stop → Type 0

@@ -29,13 +29,15 @@ module _ (h : Helpers) (a n : ℕ) where
   plainly : (i : Instr) (s : State) → T (unplaced i) → exec h i s ≡ ofEffect (execute h i s) → Runs h a n i s
   plainly i s t e = executing e (execute-at a n h i s t)
 
-  calling : (rn : ℕ) (s : State) (b c d : Bool) → eqb (R X s rn) (h .h-read) ≡ b → eqb (R X s rn) (h .h-write) ≡ c → inContext s ≡ d → Runs h a n (BranchReg Blr rn) s
+  calling : (rn : ℕ) (s : State) (b c k d : Bool) → eqb (R X s rn) (h .h-read) ≡ b → eqb (R X s rn) (h .h-write) ≡ c → eqb (R X s rn) (h .h-ram-ok) ≡ k → inContext s ≡ d → Runs h a n (BranchReg Blr rn) s
   unfolding exec
-  calling rn s true c true e f g = executing (rw (e, g)) (execute-call-at a n h rn s (inl (eqb-true (R X s rn) (h .h-read) e)))
-  calling rn s true c false e f g = failing (rw (e, g))
-  calling rn s false true true e f g = executing (rw (e, f, g)) (execute-call-at a n h rn s (inr (eqb-true (R X s rn) (h .h-write) f)))
-  calling rn s false true false e f g = failing (rw (e, f, g))
-  calling rn s false false d e f g = failing (rw (e, f))
+  calling rn s true c k true e f j g = executing (rw (e, g)) (execute-call-at a n h rn s (inl (eqb-true (R X s rn) (h .h-read) e)))
+  calling rn s true c k false e f j g = failing (rw (e, g))
+  calling rn s false true k true e f j g = executing (rw (e, f, g)) (execute-call-at a n h rn s (inr (inl (eqb-true (R X s rn) (h .h-write) f))))
+  calling rn s false true k false e f j g = failing (rw (e, f, g))
+  calling rn s false false true true e f j g = executing (rw (e, f, j, g)) (execute-call-at a n h rn s (inr (inr (eqb-true (R X s rn) (h .h-ram-ok) j))))
+  calling rn s false false true false e f j g = failing (rw (e, f, j, g))
+  calling rn s false false false d e f j g = failing (rw (e, f, j))
 
   runs : (i : Instr) (s : State) → Runs h a n i s
   unfolding exec
@@ -57,7 +59,7 @@ module _ (h : Helpers) (a n : ℕ) where
   runs (CondBranch imm k) s = failing refl
   runs (Branch imm) s = failing refl
   runs (BranchReg Br rn) s = plainly (BranchReg Br rn) s tt refl
-  runs (BranchReg Blr rn) s = calling rn s (eqb (R X s rn) (h .h-read)) (eqb (R X s rn) (h .h-write)) (inContext s) refl refl refl
+  runs (BranchReg Blr rn) s = calling rn s (eqb (R X s rn) (h .h-read)) (eqb (R X s rn) (h .h-write)) (eqb (R X s rn) (h .h-ram-ok)) (inContext s) refl refl refl refl
   runs (BranchReg Ret rn) s = plainly (BranchReg Ret rn) s tt refl
   runs (Adr imm rd) s = failing refl
   runs (LoadLiteral imm rt) s = failing refl

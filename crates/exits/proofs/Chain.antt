@@ -66,7 +66,7 @@ module _ {b : Block} {h : Helpers} {s0 : State} (B : Body b h s0) (C : Checked b
   unfolding cls
   closed k q = frag-cons {B = Leaving b s0 (a .c) pc ((base + 4 * q) % 2 ^ 64) (plus (a .c .done) count)}
       (frag-one (strX 10 CTX OFF-SLOT) (λ s. bare (wrote context 32 8 (R X s 10) s))
-      (λ s w. strX-now B (w .0 .kept) CTX context 32 refl (B .x20) (omega arith) 10 refl refl (B .context-in))
+      (λ s w. strX-now B (w .0 .kept) CTX context 32 refl (B .x20) (omega arith) 10 refl refl (omega (arith, B .context-in)))
       (λ s w. leaving-at (leaving-slot (w .0) B (R X s 10) ((base + 4 * q) % 2 ^ 64) (ap (λ y. y % 2 ^ 64) (w .1) ∙ omega arith)) 0 0))
       (frag-one (mov 0 DONE) (λ s. bare (withX 0 (R W s 26) s)) (λ s w. exec-move h s 0 26 (w .kept .fixed .registers))
       (λ s w. let v : Leaving b s0 (arrive pc count (a .c)) pc ((base + 4 * q) % 2 ^ 64) (plus (a .c .done) count) (bare (withX 0 (R W s 26) s)) =

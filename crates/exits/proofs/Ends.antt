@@ -7,17 +7,17 @@ use mathlib.Core.Bool.{true}
 use mathlib.Core.Logic.{_≢_, _⊎_, inl, inr}
 use Prim.Native.Nat.{ℕ, _+_, _-_, _*_, _%_, _^_, _≤_, _<_}
 use native.Mathlib.Omega.{arith}
-use lib.ListN.{length, getD}
+use lib.ListN.{length, getD, drop}
 use Rattle.arm.specs.declared.Size.the-variants.{W, X}
 use Rattle.block.specs.declared.Layout.{Layout}
 use Rattle.block.specs.declared.Block.{Block}
-use Rattle.machine.specs.State.{State, R, code, stack, processor, context, ram, xip, map, table}
+use Rattle.machine.specs.State.{State, R, code, stack, processor, context, ram, xip, map, table, guards}
 use Rattle.machine.specs.Memory.{readLE, bytesOf, baseOf, sizeOf}
 use Rattle.machine.specs.Machine.{atReturn, atJump}
 use Rattle.machine.proofs.Regions.{Alike}
 use Rattle.card.specs.Card.{Card}
 use Rattle.card.specs.Step.{Way, exits, chains, looksUp}
-use Rattle.demand.specs.Premises.{Entry}
+use Rattle.demand.specs.Premises.{Entry, ramGuards}
 use Rattle.demand.specs.Claim.{entryAt, guestAt, bodyAt, slotOf, frameAt, stackWord, saved, limitAt, siteAddress}
 use Rattle.demand.specs.Claim.{Equals, Untouched, Handed, ByReturn, ByTable, LeavesFor, Left}
 use Rattle.relation.specs.Lines.{at}
@@ -31,6 +31,7 @@ pub record Entered (entry : Entry) (s s0 : State) : Type 0 where
   pub outcomes-are : s0 .outcomes ≡ s .outcomes
   pub requests-are : s0 .requests ≡ s .requests
   pub sp-is : s0 .sp ≡ baseOf (s .mem) stack + frameAt entry s
+  pub guards-are : drop guards (s0 .mem) ≡ drop guards (s .mem)
   pub bytes-are : (k : ℕ) → k ≢ stack → bytesOf (s0 .mem) k ≡ bytesOf (s .mem) k
   pub stack-is : (o : ℕ) → (o < frameAt entry s) ⊎ (frameAt entry s + 96 ≤ o) → getD (bytesOf (s0 .mem) stack) o 0 ≡ getD (bytesOf (s .mem) stack) o 0
   pub frame : (k : ℕ) → 19 ≤ k → k < 29 → word s0 (frameAt entry s) (8 * k - 136) ≡ saved entry s k (8 * k - 136)
@@ -58,6 +59,8 @@ equals-to {lay} w e m r = record {
   requests = r ∙ w .requests;
   map-is = ap (λ y. bytesOf y map) m ∙ w .map-is;
   brk-is = ap (λ y. readLE (bytesOf y context) 24 4) m ∙ w .brk-is;
+  version-is = ap (λ y. readLE (bytesOf y context) 40 8) m ∙ w .version-is;
+  guards-are = ap (λ y. ramGuards (drop guards y)) m ∙ w .guards-are;
 }
 
 untouched-to : {lay : Layout} {entry : Entry} {s t : State} → Untouched lay entry s t → (e : State) → e .mem ≡ t .mem → Untouched lay entry s e
@@ -70,6 +73,7 @@ untouched-to v e m = record {
   stack-is = λ o l. ap (λ y. getD (bytesOf y stack) o 0) m ∙ v .stack-is o l;
   processor-is = λ o l. ap (λ y. getD (bytesOf y processor) o 0) m ∙ v .processor-is o l;
   context-is = λ o l r. ap (λ y. getD (bytesOf y context) o 0) m ∙ v .context-is o l r;
+  guards-is = λ k o l r. ap (λ y. getD (bytesOf y k) o 0) m ∙ v .guards-is k o l r;
 }
 
 module _ {entry : Entry} {s s0 : State} (E : Entered entry s s0) where
@@ -99,6 +103,8 @@ module _ {entry : Entry} {s s0 : State} (E : Entered entry s s0) where
       requests = w .io .requests-are;
       map-is = w .others .map-is;
       brk-is = w .ctx .brk-is;
+      version-is = w .ctx .version-is;
+      guards-are = w .others .guards-are;
     }
 
     pub untouched-of : Untouched (b .layout) entry s t
@@ -111,6 +117,7 @@ module _ {entry : Entry} {s s0 : State} (E : Entered entry s s0) where
       stack-is = λ o m. ap (λ l. getD l o 0) (w .others .stack-is) ∙ E .stack-is o m;
       processor-is = λ o m. w .fields .outside o m ∙ ap (λ l. getD l o 0) (E .bytes-are processor (omega arith));
       context-is = λ o m n. w .ctx .outside o m n ∙ ap (λ l. getD l o 0) (E .bytes-are context (omega arith));
+      guards-is = λ k o m n. w .others .guards-is k o m n ∙ ap (λ l. getD l o 0) (E .bytes-are k (omega arith));
     }
 
   -- "At the return": to is where the run then is, after n instructions

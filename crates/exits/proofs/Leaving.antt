@@ -64,7 +64,7 @@ module _ {b : Block} {s0 : State} {c : Card} {pc slot done : ℕ} {s : State} (w
     kept = record {
       fixed = w .kept .fixed;
       fields = record { sp-is = w .kept .fields .sp-is; rets-is = w .kept .fields .rets-is; hold-is = w .kept .fields .hold-is; pc-is = w .kept .fields .pc-is; outside = w .kept .fields .outside };
-      ctx = record { brk-is = w .kept .ctx .brk-is; slot-is = w .kept .ctx .slot-is; outside = w .kept .ctx .outside };
+      ctx = record { brk-is = w .kept .ctx .brk-is; slot-is = w .kept .ctx .slot-is; version-is = w .kept .ctx .version-is; outside = w .kept .ctx .outside };
       others = record {
         alike = w .kept .others .alike;
         code-is = w .kept .others .code-is;
@@ -73,6 +73,8 @@ module _ {b : Block} {s0 : State} {c : Card} {pc slot done : ℕ} {s : State} (w
         xip-is = w .kept .others .xip-is;
         map-is = w .kept .others .map-is;
         table-is = w .kept .others .table-is;
+        guards-are = w .kept .others .guards-are;
+        guards-is = w .kept .others .guards-is;
       };
       io = record { outcomes-are = w .kept .io .outcomes-are; requests-are = w .kept .io .requests-are; goods = w .kept .io .goods };
       small = record {

@@ -10,7 +10,7 @@ use native.Mathlib.Nat.{mod-eq-of-lt}
 use native.Mathlib.Omega.{arith}
 use borrow.Author.Tests.{eqb-true, eqb-false}
 use lib.Dec.{eqb}
-use lib.ListN.{length, getD, length-set}
+use lib.ListN.{length, getD, drop, length-set}
 use lib.Seq.{getD-set-same, getD-set-other}
 use Rattle.arm.specs.declared.Size.the-variants.{W, X}
 use Rattle.arm.specs.declared.Mode.the-variants.{Offset, Pre}
@@ -19,12 +19,12 @@ use Rattle.block.specs.declared.Block.{Block}
 use Rattle.code.specs.Tree.{Depth, code}
 use Rattle.code.specs.Machine.{fall}
 use Rattle.machine.specs.Bits.{SignExtend}
-use Rattle.machine.specs.State.{State, R, withX, withSP, withMem, stack}
+use Rattle.machine.specs.State.{State, R, withX, withSP, withMem, stack, guards}
 use Rattle.machine.specs.Memory.{readLE, writeLE, bytesOf, baseOf, sizeOf, withBytes, Apart}
 use Rattle.machine.specs.Execute.{Helpers, done, pair}
 use Rattle.machine.proofs.Bytes.{length-writeLE, getD-writeLE-below, getD-writeLE-above, read-below, read-same}
 use Rattle.machine.proofs.Numbers.{sign-low}
-use Rattle.machine.proofs.Regions.{Alike, at-offset, alike-refl, alike-trans, alike-with, apart-alike, bytes-same, bytes-other}
+use Rattle.machine.proofs.Regions.{Alike, at-offset, alike-refl, alike-trans, alike-with, apart-alike, bytes-same, bytes-other, drop-with}
 use Rattle.machine.proofs.Access.{exec-pair, pair-store}
 use Rattle.machine.proofs.Data.{exec-mov}
 use Rattle.machine.proofs.Registers.{R-lt}
@@ -54,6 +54,7 @@ pub record Winding (s : State) (f a : ℕ) (t : State) : Type 0 where
   pub outcomes-are : t .outcomes ≡ s .outcomes
   pub requests-are : t .requests ≡ s .requests
   pub bytes-are : (k : ℕ) → k ≢ stack → bytesOf (t .mem) k ≡ bytesOf (s .mem) k
+  pub guards-are : drop guards (t .mem) ≡ drop guards (s .mem)
   pub stack-is : (o : ℕ) → (o < f) ⊎ (f + 96 ≤ o) → getD (bytesOf (t .mem) stack) o 0 ≡ getD (bytesOf (s .mem) stack) o 0
   pub below : (k : ℕ) → 19 ≤ k → k < a → word t f (8 * k - 136) ≡ R X s k
   pub w29 : word t f 0 ≡ R X s 29
@@ -146,6 +147,7 @@ module _ (h : Helpers) (s : State) (f : ℕ) (F : Roomy s f) where
         outcomes-are = refl;
         requests-are = refl;
         bytes-are = λ k q. bytes-other stack m (s .mem) k q;
+        guards-are = drop-with guards stack m (s .mem) (omega arith);
         stack-is = λ o q. ap (λ y. getD y o 0) (bytes-same stack m (s .mem) (F .present)) ∙ ap (λ y. getD (two l y (R X s 29) (R X s 30)) o 0) plain ∙ two-outside l f 0 (R X s 29) (R X s 30) o (omega arith) q;
         below = λ k q r. absurd (omega arith);
         w29 = ap (λ y. readLE y (f + 0) 8) (bytes-same stack m (s .mem) (F .present)) ∙ ap (λ y. readLE m y 8) (sym plain) ∙ two-first l f (R X s 29) (R X s 30) (omega (arith, F .inside)) (R-lt X s 29);
@@ -169,6 +171,7 @@ module _ (h : Helpers) (s : State) (f : ℕ) (F : Roomy s f) where
         outcomes-are = w .outcomes-are;
         requests-are = w .requests-are;
         bytes-are = λ k n. bytes-other stack m (t .mem) k n ∙ w .bytes-are k n;
+        guards-are = drop-with guards stack m (t .mem) (omega arith) ∙ w .guards-are;
         stack-is = λ o n. ap (λ y. getD y o 0) (bytes-same stack m (t .mem) (here t (w .alike))) ∙ two-outside l f (imm * 8) u v o (omega arith) n ∙ w .stack-is o n;
         below = λ k n o. word-is t (w .alike) (imm * 8) u v (8 * k - 136) ∙ test (eqb k (imm + 18))
             (λ e. let z : k ≡ imm + 18 = eqb-true k (imm + 18) e in
@@ -210,6 +213,7 @@ module _ (h : Helpers) (s : State) (f : ℕ) where
       outcomes-are = w .outcomes-are;
       requests-are = w .requests-are;
       bytes-are = w .bytes-are;
+      guards-are = w .guards-are;
       stack-is = w .stack-is;
       below = w .below;
       w29 = w .w29;
@@ -292,6 +296,7 @@ module _ {b : Block} {h : Helpers} {limit : ℕ} {c : Card} {s : State} (P : Pre
       requests-are = w .winding .requests-are;
       sp-is = w .winding .sp-is;
       bytes-are = w .winding .bytes-are;
+      guards-are = w .winding .guards-are;
       stack-is = w .winding .stack-is;
       frame = w .winding .below;
       frame-29 = w .winding .w29;

@@ -1,7 +1,8 @@
 -- The premises for a run, at the body: what does not change, and the relation with nothing in the slots.
 --     body-ok, start-sim          the premises at the body, and the relation there
 --     entered-body, loaded-body   where the run starts at the body
-use mathlib.Core.Path.{_≡_, refl, sym, ap, _∙_, subst}
+use mathlib.Core.Logic.{_⊎_}
+use mathlib.Core.Path.{_≡_, refl, sym, ap, _∙_, subst, subst₂}
 use mathlib.Core.Bool.{true, false}
 use mathlib.Core.Option.{none}
 use mathlib.Core.List.{List, [], _∷_}
@@ -10,16 +11,17 @@ use native.Mathlib.Omega.{arith}
 use borrow.Author.Tests.{ltb-true, ltb-false}
 use lib.Dec.{ltb}
 use lib.ListN.{List·getD-eq-default}
+use Rattle.block.specs.declared.Guard.{Guard}
 use Rattle.block.specs.declared.Block.{Block}
 use Rattle.machine.specs.State.{State, Outcome, stack, processor, context, ram, xip, map, table}
 use Rattle.machine.specs.Memory.{readLE, bytesOf, baseOf}
 use Rattle.machine.specs.Execute.{Helpers}
 use Rattle.machine.proofs.Bytes.{read-lt}
-use Rattle.machine.proofs.Regions.{alike-refl, apart-alike}
+use Rattle.machine.proofs.Regions.{Alike, alike-refl, apart-alike}
 use Rattle.card.specs.Card.{Card, reg}
 use Rattle.lowering.specs.Cache.{emptyCache}
 use Rattle.demand.specs.Outside.{allArm, allCard}
-use Rattle.demand.specs.Premises.{Entry, body, Premises, AllFit}
+use Rattle.demand.specs.Premises.{Entry, body, ramGuards, Guarded, Premises, AllFit}
 use Rattle.demand.specs.Claim.{slotOf}
 use Rattle.demand.proofs.Next.{frame-inside}
 use Rattle.relation.specs.Lines.{bare}
@@ -28,6 +30,19 @@ use Rattle.relation.specs.Relation.{pcOf, Body, Goods, Small, Kept, Sim, guestO
 use Rattle.registers.proofs.Basics.{test, absurd-bool, below8}
 use Rattle.exits.proofs.Ends.{Entered, Loaded}
 
+-- a guard stays where it is
+guarded-alike : {g : Guard} {h : Helpers} {s s0 : State} → Alike (s .mem) (s0 .mem) → Guarded g h s → Guarded g h s0
+guarded-alike {h = h} a g = record {
+  region = g .region;
+  from = g .from;
+  inside = omega (arith, a .count, g .inside);
+  at = a .base (g .region) ∙ g .at;
+  h-ram-ok = g .h-ram-ok;
+  differ-read = g .differ-read;
+  differ-write = g .differ-write;
+  elsewhere = λ i l. subst₂ (λ x y. (h .h-ram-ok < x) ⊎ (x + y ≤ h .h-ram-ok)) (sym (a .base i)) (sym (a .size i)) (g .elsewhere i (omega (arith, a .count)));
+}
+
 module _ {b : Block} {h : Helpers} {entry : Entry} {limit : ℕ} {c : Card} {s s0 : State} (P : Premises b h entry limit c s) (E : Entered entry s s0) (L : Loaded b limit c s s0) where
   at-base : (k : ℕ) {x : ℕ} → x ≡ baseOf (s .mem) k → x ≡ baseOf (s0 .mem) k
   at-base k e = e ∙ sym (E .alike .base k)
@@ -35,7 +50,7 @@ module _ {b : Block} {h : Helpers} {entry : Entry} {limit : ℕ} {c : Card} {s s
   pub body-ok : Body b h s0
   body-ok = record {
     registers = E .registers;
-    regions = E .alike .count ∙ P .regions;
+    regions = omega (arith, E .alike .count, P .regions);
     apart = apart-alike (E .alike) (P .apart);
     x19 = at-base processor (L .x19);
     x20 = at-base context (L .x20);
@@ -56,13 +71,15 @@ module _ {b : Block} {h : Helpers} {entry : Entry} {limit : ℕ} {c : Card} {s s
     reads = P .h-read;
     writes = P .h-write;
     differ = P .differ;
+    guard-sizes = λ k l m. omega (arith, E .alike .size k, P .guard-sizes k l (omega (arith, E .alike .count)));
+    guarded = λ e. guarded-alike (E .alike) (P .guarded e);
     sp-at = omega (arith, E .sp-is, E .alike .base stack);
     frame-in = omega (arith, E .sp-is, E .alike .base stack, E .alike .size stack, frame-inside entry P);
   }
 
   goods-of : (os : List Outcome) → AllFit s os → Goods s0 os
   goods-of [] f = tt
-  goods-of (o ∷ os) f = (record { brk-lt = f .0 .brk; ram-len = f .0 .ram ∙ sym (E .alike .size ram); map-len = f .0 .map ∙ sym (E .alike .size map) }, goods-of os (f .1))
+  goods-of (o ∷ os) f = (record { brk-lt = f .0 .brk; ram-len = f .0 .ram ∙ sym (E .alike .size ram); map-len = f .0 .map ∙ sym (E .alike .size map); version-lt = f .0 .version; guards-lt = f .0 .guards-lt }, goods-of os (f .1))
 
   word-lt : (o v : ℕ) → readLE (bytesOf (s .mem) processor) o 4 ≡ v → v < 2 ^ 32
   word-lt o v e = subst (λ y. y < 2 ^ 32) e (read-lt (bytesOf (s .mem) processor) o 4)
@@ -93,7 +110,7 @@ module _ {b : Block} {h : Helpers} {entry : Entry} {limit : ℕ} {c : Card} {s s
       pc-is = refl;
       outside = λ o q. refl;
     };
-    ctx = record { brk-is = ap (λ l. readLE l 24 4) (E .bytes-are context (omega arith)) ∙ P .brk-is; slot-is = refl; outside = λ o p q. refl };
+    ctx = record { brk-is = ap (λ l. readLE l 24 4) (E .bytes-are context (omega arith)) ∙ P .brk-is; slot-is = refl; version-is = ap (λ l. readLE l 40 8) (E .bytes-are context (omega arith)) ∙ P .version-is; outside = λ o p q. refl };
     others = record {
       alike = alike-refl (s0 .mem);
       code-is = refl;
@@ -102,6 +119,8 @@ module _ {b : Block} {h : Helpers} {entry : Entry} {limit : ℕ} {c : Card} {s s
       xip-is = refl;
       map-is = E .bytes-are map (omega arith) ∙ P .map-is;
       table-is = refl;
+      guards-are = ap ramGuards (E .guards-are) ∙ P .guards-are;
+      guards-is = λ k o y n. refl;
     };
     io = record {
       outcomes-are = P .outcomes ∙ ap allCard (sym (E .outcomes-are));
@@ -148,6 +167,7 @@ module _ {b : Block} {h : Helpers} {limit : ℕ} {c : Card} {s : State} (P : Pre
     requests-are = refl;
     sp-is = omega (arith, P .starts .room);
     bytes-are = λ k q. refl;
+    guards-are = refl;
     stack-is = λ o q. refl;
     frame = λ k l m. refl;
     frame-29 = refl;

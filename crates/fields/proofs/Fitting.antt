@@ -1,19 +1,22 @@
--- Fields without a fault hold what fits: the layout, the regions, the addresses and the block's address of a checked block.
+-- Fields without a fault hold what fits: the layout, the regions, the addresses, the block's address and the guard of a checked block.
 use mathlib.Core.Path.{_≡_, refl}
-use mathlib.Core.Bool.{Bool, true, false, not, _&&_}
+use mathlib.Core.Bool.{Bool, true, false, cond, not, _&&_, _||_}
 use mathlib.Core.List.{List, [], _∷_}
 use mathlib.Core.Logic.{_⊎_, inl, inr}
 use Prim.Native.Nat.{ℕ, zero, suc, _+_, _%_, _<_, _≤_}
 use native.Mathlib.Omega.{arith}
-use borrow.Author.Tests.{ltb-false, leb-false, eqb-true}
-use lib.Dec.{ltb, eqb}
+use borrow.Author.Tests.{ltb-true, ltb-false, leb-true, leb-false, eqb-true}
+use lib.Dec.{leb, ltb, eqb}
 use lib.ListN.{take, drop}
 use lib.Seq.{getD-drop}
 use Rattle.block.specs.declared.Layout.{Layout}
-use Rattle.block.specs.Checked.{Place, Apart, LayoutFits, RegionFits, MemoryFits, AddressesFit}
-use Rattle.operands.proofs.Laws.{then-zero, gives-zero, not-true, or-false-both}
+use Rattle.block.specs.declared.Memory.{Memory}
+use Rattle.block.specs.Block.{inFlash, noGuard}
+use Rattle.block.specs.Checked.{Place, Apart, LayoutFits, RegionFits, MemoryFits, AddressesFit, GuardFits}
+use Rattle.operands.proofs.Laws.{then-zero, gives-zero, not-true, and-true-both, or-false-both}
 use Rattle.fields.specs.Fields.{_gives_, byteAt, num16, num32, num64, payloadLength, payload, Span, span, spans, any, far, unaligned}
-use Rattle.fields.specs.Fields.{meets, overlap, layoutFault, memoryOf, regionFault, memoryFault, addressesOf, startFault}
+use Rattle.fields.specs.Fields.{meets, overlap, layoutFault, memoryOf, regionFault, memoryFault, addressesOf, insideRam, startFault}
+use Rattle.fields.specs.Fields.{startOf, guardOf, guardAt}
 
 -- ---- bytes and the numbers made of them
 
@@ -128,9 +131,23 @@ memory-fits p e =
 pub addresses-fit : (p : List ℕ) → Bytes p → AddressesFit (addressesOf p)
 addresses-fit p h = record { h-read = below-64 p 0 h; h-write = below-64 p 8 h; table = below-64 p 16 h }
 
-pub start-fits : (a : ℕ) → startFault a ≡ 0 → (0x02000000 ≤ a) × (a < 0x04000000)
+pub guard-fits : (s : List ℕ) → Bytes s → GuardFits (guardAt s)
+guard-fits s h =
+    either (inFlash (startOf s))
+  where
+    p : Bytes (payload s 77)
+    p = payload-bytes s 77 h
+
+    either : (flash : Bool) → GuardFits (cond flash noGuard (guardOf (payload s 77)))
+    either true = record { at = omega arith; h-ram-ok = omega arith }
+    either false = record { at = below-64 (payload s 77) 0 p; h-ram-ok = below-64 (payload s 77) 8 p }
+
+-- a RAM start lies inside RAM
+pub start-fits : (m : Memory) (s : List ℕ) (a : ℕ) → startFault m s a ≡ 0 → inFlash a ≡ false
+    → (m .«ram_base» ≤ a) × (a < m .«ram_base» + m .«ram_len»)
 unfolding startFault
-start-fits a e =
-    let x = or-false-both (ltb a 0x02000000) (ltb 0x03ffffff a) (gives-zero _ 6 e) in
-    let y = ltb-false 0x03ffffff a (x .1) in
-    (ltb-false a 0x02000000 (x .0), omega (arith, y))
+start-fits m s a e f =
+    let x = then-zero (not (inFlash a || insideRam m a) gives 7) _ e .0 in
+    let i : insideRam m a ≡ true = rw f at (not-true (inFlash a || insideRam m a) (gives-zero _ 6 x)) in
+    let y = and-true-both (leb (m .«ram_base») a) (ltb a (m .«ram_base» + m .«ram_len»)) i in
+    (leb-true _ _ (y .0), ltb-true _ _ (y .1))

@@ -1,6 +1,6 @@
 -- Laws of fields that several functions' proofs use.
 use mathlib.Core.Path.{_≡_, refl, ap, _∙_}
-use mathlib.Core.Bool.{false, not}
+use mathlib.Core.Bool.{true, false, not}
 use mathlib.Core.List.{List}
 use Prim.Native.Nat.{ℕ, _+_, _-_, _≤_, _<_}
 use native.Mathlib.Omega.{arith}
@@ -9,9 +9,10 @@ use lib.Dec.{ltb, eqb}
 use native.Mathlib.Nat.{add-zero}
 use lib.ListN.{length, take, drop, length-take}
 use lib.Seq.{getD-take, getD-drop}
+use Rattle.block.specs.Block.{inFlash}
 use Rattle.operands.proofs.Laws.{then-zero, gives-zero, not-true, or-false-both}
 use Rattle.fields.specs.Fields.{_gives_, byteAt, payloadLength, payload, cut, fieldFault, layoutField, memoryField}
-use Rattle.fields.specs.Fields.{addressesField, startField}
+use Rattle.fields.specs.Fields.{addressesField, startOf, startField, guardField}
 
 pub record Whole (s : List ℕ) (at len : ℕ) : Type 0 where
   pub inside : at + 3 + len ≤ length s
@@ -70,3 +71,13 @@ addresses-whole s e = (e, field-whole s 43 3 24 e)
 pub start-whole : (s : List ℕ) → startField s ≡ 0 → (fieldFault s 70 4 4 ≡ 0) × Whole s 70 4
 unfolding startField
 start-whole s e = let f = then-zero (fieldFault s 70 4 4) _ e .0 in (f, field-whole s 70 4 4 f)
+
+-- field 06: none of a flash block, and a RAM block's
+
+pub no-guard : (s : List ℕ) → inFlash (startOf s) ≡ true → guardField s ≡ 0
+unfolding guardField
+no-guard s e = rw e refl
+
+pub guard-whole : (s : List ℕ) → inFlash (startOf s) ≡ false → guardField s ≡ 0 → Whole s 77 16
+unfolding guardField
+guard-whole s r e = field-whole s 77 6 16 (rw r at e)

@@ -1,6 +1,6 @@
--- Fields 01 to 04 of a block record, from document 01's "The block record" and "Faults, in order", the fault of a layout as document 02's
--- 2026-03 splits it: what each holds, and the number of its first fault, 0 where there is none.
-use mathlib.Core.Bool.{Bool, false, not, _&&_, _||_}
+-- Fields 01 to 04 and 06 of a block record, from document 01's "The block record" and "Faults, in order", the fault of a layout as document
+-- 02's 2026-03 splits it and that of a start as 2026-06 has it: what each holds, and the number of its first fault, 0 where there is none.
+use mathlib.Core.Bool.{Bool, false, cond, not, _&&_, _||_}
 use mathlib.Core.List.{List, [], _∷_}
 use Prim.Native.Nat.{ℕ, _+_, _%_}
 use lib.Dec.{leb, ltb, eqb}
@@ -8,6 +8,8 @@ use lib.ListN.{length, take, drop}
 use Rattle.block.specs.declared.Layout.{Layout}
 use Rattle.block.specs.declared.Memory.{Memory}
 use Rattle.block.specs.declared.Addresses.{Addresses}
+use Rattle.block.specs.declared.Guard.{Guard}
+use Rattle.block.specs.Block.{inFlash, noGuard}
 use Rattle.operands.specs.Kinds.{flagOf}
 pub use Rattle.operands.specs.Numbers.{byteAt}
 unfoldable pub use Rattle.operands.specs.Numbers.{num16, num32, num64}
@@ -98,12 +100,28 @@ memoryFault p =
 abbrev pub addressesOf : List ℕ → Addresses
 addressesOf p = record { «h_read» = num64 p 0; «h_write» = num64 p 8; table = num64 p 16 }
 
--- ---- field 04: "block address outside 02000000 to 03ffffff"
+-- ---- field 04: "Refusal 7 now covers a start that is neither in flash's range .. nor inside RAM."
 
-unfoldable pub startFault : ℕ → ℕ
-startFault a = (ltb a 0x02000000 || ltb 0x03ffffff a) gives 7
+abbrev pub insideRam : Memory → ℕ → Bool
+insideRam m a = leb (m .«ram_base») a && ltb a (m .«ram_base» + m .«ram_len»)
 
--- the fault of each of the fields 01 to 04, which are 23, 20, 27 and 7 bytes long: the header's, then those of the contents
+-- tag 06 is next: the byte behind field 04. Behind the record's end `byteAt` is 0, so that nothing is next there
+abbrev pub guardNext : List ℕ → Bool
+guardNext s = eqb (byteAt s 77) 6
+
+-- "Tag 06 next after a flash start, or not next after a RAM start, answers 16 at tag 04's place, before any other fault of the next field"
+unfoldable pub startFault : Memory → List ℕ → ℕ → ℕ
+startFault m s a =
+    not (inFlash a || insideRam m a) gives 7
+    then (inFlash a && guardNext s) gives 16
+    then (not (inFlash a) && not (guardNext s)) gives 16
+
+-- ---- field 06, "directly behind tag 04": a RAM block's guard; a flash block has none, and zeros in its place
+
+abbrev pub guardOf : List ℕ → Guard
+guardOf p = record { at = num64 p 0; «h_ram_ok» = num64 p 8 }
+
+-- the fault of each of the fields 01 to 04 and 06, which are 23, 20, 27, 7 and 19 bytes long: the header's, then those of the contents
 
 unfoldable pub layoutField : List ℕ → ℕ
 layoutField s = fieldFault s 0 1 20 then layoutFault (layoutOf (payload s 0))
@@ -114,5 +132,19 @@ memoryField s = fieldFault s 23 2 17 then memoryFault (payload s 23)
 unfoldable pub addressesField : List ℕ → ℕ
 addressesField s = fieldFault s 43 3 24
 
+-- where the block starts
+abbrev pub startOf : List ℕ → ℕ
+startOf s = num32 (payload s 70) 0
+
 unfoldable pub startField : List ℕ → ℕ
-startField s = fieldFault s 70 4 4 then startFault (num32 (payload s 70) 0)
+startField s = fieldFault s 70 4 4 then startFault (memoryOf (payload s 23)) s (startOf s)
+
+unfoldable pub guardField : List ℕ → ℕ
+guardField s = cond (inFlash (startOf s)) 0 (fieldFault s 77 6 16)
+
+abbrev pub guardAt : List ℕ → Guard
+guardAt s = cond (inFlash (startOf s)) noGuard (guardOf (payload s 77))
+
+-- where the operations start
+abbrev pub firstOp : List ℕ → ℕ
+firstOp s = cond (inFlash (startOf s)) 77 96

@@ -1,13 +1,18 @@
-// Fields 01 to 04 of a block record: their faults, and what they hold.
+// Fields 01 to 04 and 06 of a block record: their faults, and what they hold.
 ghost use mathlib.Core.Path.{_≡_};
+ghost use mathlib.Core.Bool.{false};
 ghost use Prim.Native.Nat.{_+_, _≤_, _<_};
 ghost use lib.ListN.{length};
+ghost use Rattle.block.specs.Block.{inFlash};
 ghost use Rattle.fields.specs.Fields.{cut as isCut, fieldFault, layoutOf, spans, span, any, far as isFar, unaligned, meets};
 ghost use Rattle.fields.specs.Fields.{overlap as overlapping, layoutFault, layoutField, memoryOf, regionFault, memoryFault};
-ghost use Rattle.fields.specs.Fields.{memoryField, addressesOf, addressesField, startFault, startField};
+ghost use Rattle.fields.specs.Fields.{memoryField, addressesOf, addressesField, insideRam, startOf, startFault, startField};
+ghost use Rattle.fields.specs.Fields.{guardOf, guardField, guardAt};
 use block::Addresses;
+use block::Guard;
 use block::Layout;
 use block::Memory;
+use block::in_flash;
 use operands::byte;
 use operands::get16;
 use operands::get32;
@@ -202,25 +207,77 @@ pub fn addresses_field(s: &[u8]) -> u32
 
 // ---- field 04
 
-fn start_fault(a: u32) -> u32
-    ensures { λ r. ⌜ r ≡ startFault a ⌝ }
+fn inside_ram(m: Memory, a: u32) -> bool
+    ensures { λ r. ⌜ r ≡ insideRam m a ⌝ }
 {
-    if a < 0x0200_0000 {
+    (m.ram_base <= a) & ((a as u64) < (m.ram_base as u64) + (m.ram_len as u64))
+}
+
+// A flash start is tested for tag 06 alone.
+fn start_fault(m: Memory, s: &[u8], a: u32) -> u32
+    ensures { λ r. ⌜ r ≡ startFault m (now (s .entry)) a ⌝ }
+{
+    let next = byte(s, 77) == 6;
+    if in_flash(a) {
+        if next {
+            return 16;
+        }
+        return 0;
+    }
+    if !inside_ram(m, a) {
         return 7;
     }
-    if 0x03ff_ffff < a {
-        return 7;
+    if !next {
+        return 16;
     }
     0
 }
 
+// Where the block starts.
+pub fn start_of(s: &[u8]) -> u32
+    requires { ⌜ fieldFault (now s) 70 4 4 ≡ 0 ⌝ }
+    ensures { λ r. ⌜ r ≡ startOf (now (s .entry)) ⌝ }
+{
+    get32(&s[73..77], 0)
+}
+
 pub fn start_field(s: &[u8]) -> u32
-    requires { ⌜ 70 ≤ length (now s) ⌝ }
+    requires { ⌜ (70 ≤ length (now s)) × (fieldFault (now s) 23 2 17 ≡ 0) ⌝ }
     ensures { λ r. ⌜ r ≡ startField (now (s .entry)) ⌝ }
 {
     let f = field_fault(s, 70, 4, 4);
     if f != 0 {
         return f;
     }
-    start_fault(get32(&s[73..77], 0))
+    start_fault(memory_of(&s[26..43]), s, start_of(s))
+}
+
+// ---- field 06
+
+fn guard_of(p: &[u8]) -> Guard
+    ensures { λ r. ⌜ r ≡ guardOf (now (p .entry)) ⌝ }
+{
+    Guard {
+        at: get64(p, 0),
+        h_ram_ok: get64(p, 8),
+    }
+}
+
+// Of a RAM block: a flash block has no such field.
+pub fn guard_field(s: &[u8]) -> u32
+    requires { ⌜ (77 ≤ length (now s)) × (inFlash (startOf (now s)) ≡ false) ⌝ }
+    ensures { λ r. ⌜ r ≡ guardField (now (s .entry)) ⌝ }
+{
+    field_fault(s, 77, 6, 16)
+}
+
+// A RAM block's guard; of a flash block zeros.
+pub fn guard_at(s: &[u8]) -> Guard
+    requires { ⌜ (fieldFault (now s) 70 4 4 ≡ 0) × (guardField (now s) ≡ 0) ⌝ }
+    ensures { λ r. ⌜ r ≡ guardAt (now (s .entry)) ⌝ }
+{
+    if in_flash(start_of(s)) {
+        return Guard { at: 0, h_ram_ok: 0 };
+    }
+    guard_of(&s[80..96])
 }

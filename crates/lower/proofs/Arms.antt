@@ -21,11 +21,12 @@ use Rattle.lowering.specs.declared.RegCache.{RegCache}
 use Rattle.lowering.specs.Instrs.{CPU, mov32, sbfx, ubfx}
 use Rattle.lowering.specs.Cache.{ldReg, stReg, seated, stored}
 use Rattle.lowering.specs.Fragments.{addImm, fieldAt, alignTest, mapTest, tryRegion, call, exitImm, hold, load, store, chain, fork, ind}
-use Rattle.lowering.specs.Fragments.{checkBrk, limit, stepCode, stepCache}
+use Rattle.lowering.specs.Fragments.{checkBrk, limit, guard, stepCode, stepCache}
 use Rattle.lowering.specs.Compile.{targets}
 use Rattle.lowering.specs.Given.{given, placed}
 use Rattle.jumps.specs.Parts.{tabled}
 use Rattle.jumps.proofs.Laws.{ind-sites, check-sites, limit-sites}
+use Rattle.guards.proofs.Laws.{guard-sites}
 use Rattle.lowering.specs.Steps.{Step as Meant, Field, rhs, base, low}
 use Rattle.asm.specs.declared.Asm.{Asm}
 use Rattle.asm.specs.State.{State, state}
@@ -137,6 +138,14 @@ module _ (lay : Layout) (mem : Memory) (addr : Addresses) (ws t ws₁ t₁ : Lis
       → Lowers blk (Meant.limit pc count ∷ []) ws t q ws₁ t₁ r
   unfolding stepCode stepCache limit exitImm
   limit-lowers a pc count p k = tree-lowers blk ws t ws₁ t₁ q r a (Meant.limit pc count) (limit (placed lay) (q .rc) pc count) refl (limit-sites (placed lay) (q .rc) nowhere 0 from-state pc count) refl refl p k
+
+  pub guard-lowers : (a : Asm) (at helper pc : ℕ)
+      → state ws₁ t₁ a ≡ afterT (guard (placed lay) (q .rc) at helper pc) nowhere 0 from-state
+      → (r .a ≡ a) × (r .rc ≡ q .rc) × (r .sites ≡ q .sites) → Lowers blk (Meant.guard at helper pc ∷ []) ws t q ws₁ t₁ r
+  unfolding stepCode stepCache guard call exitImm
+  guard-lowers a at helper pc p k =
+      tree-lowers blk ws t ws₁ t₁ q r a (Meant.guard at helper pc) (guard (placed lay) (q .rc) at helper pc) refl
+      (guard-sites (placed lay) (q .rc) nowhere 0 from-state at helper pc) refl refl p k
 
   -- a site
   pub chain-lowers : (pc count p : ℕ) → (state ws₁ t₁ (r .a) ≡ afterT (chain (placed lay) (q .rc) pc count) nowhere 0 from-state) × ((p ∷ []) ≡ startsT (chain (placed lay) (q .rc) pc count) nowhere 0 from-state) → r .rc ≡ q .rc

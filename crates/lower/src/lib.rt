@@ -17,6 +17,7 @@ use block::Base;
 use block::Block;
 use block::Choice;
 use block::Cond;
+use block::Guard;
 use block::Layout;
 use block::Memory;
 use block::Op;
@@ -410,6 +411,22 @@ pub fn limit(
     let a = q.a;
     let rc = q.rc;
     plain(q, jumps::limit(out, tab, a, lay, rc, pc, count))
+}
+
+// Leave for pc if the versions differ and the helper answers 0.
+pub fn guard(
+    out: &mut [u32],
+    tab: &mut [u64; 6152],
+    q: Lowered,
+    lay: Layout,
+    g: Guard,
+    pc: u32,
+) -> Lowered
+    ensures { λ r. ⌜ ((mem : Memory) (addr : Addresses) → Lowers (given lay mem addr) (Meant.guard (g .at) (g .«h_ram_ok») pc ∷ []) (now (out .entry)) (now (tab .entry)) q (now (out .exit)) (now (tab .exit)) r) ⌝ }
+{
+    let a = q.a;
+    let rc = q.rc;
+    plain(q, guards::guard(out, tab, a, lay, rc, g, pc))
 }
 
 // Go on at target if the condition holds, else at pc.

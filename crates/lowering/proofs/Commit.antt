@@ -137,6 +137,7 @@ look (Step.chain pc count) = unchanged refl refl
 look (Step.fork cond pc target count) = unchanged refl refl
 look (Step.ind t count brk) = unchanged refl refl
 look (Step.limit pc count) = unchanged refl refl
+look (Step.guard at helper pc) = unchanged refl refl
 
 cache-same : (rc : RegCache) (s : Step) → stepCache rc (commitStep s) ≡ stepCache rc s
 unfolding stepCache

@@ -1,4 +1,4 @@
--- Four small blocks, their words and chain sites computed: the listings are what the commit's `compile` gives for them, that of the last
+-- Five small blocks, their words and chain sites computed: the listings are what the commit's `compile` gives for them, that of the fourth
 -- with the tests of 2026-04 and without.
 -- Assumes nothing.
 use mathlib.Core.Path.{_≡_, refl}
@@ -10,12 +10,13 @@ use Rattle.block.specs.declared.RmwOp.the-variants.{Mov as RmwMov}
 use Rattle.block.specs.declared.Cond.the-variants.{Ne}
 use Rattle.block.specs.declared.Base.the-variants.{Reg, Sp}
 use Rattle.block.specs.declared.Width.the-variants.{Half as B16, Word as B32}
-use Rattle.block.specs.declared.Fast.the-variants.{Nop, Alu3, Mov2, Ld, St, Rmw, PushRet, BrI, PopRet, BlockMove, PushRets, PopPc, LdPair}
+use Rattle.block.specs.declared.Fast.the-variants.{Nop, Mov, Alu3, Mov2, Ld, St, Rmw, PushRet, BrI, PopRet}
+use Rattle.block.specs.declared.Fast.the-variants.{BlockMove, PushRets, PopPc, LdPair}
 use Rattle.block.specs.declared.BOp.{BOp}
 use Rattle.block.specs.declared.Layout.{Layout}
 use Rattle.block.specs.declared.Addresses.{Addresses}
 use Rattle.block.specs.declared.Block.{Block}
-use Rattle.block.specs.Block.{places, upFrom}
+use Rattle.block.specs.Block.{noGuard, places, upFrom}
 use Rattle.code.specs.Items.{index, add, halves, padOf, baseOf}
 use Rattle.code.specs.Tree.{words, lines, instrs, wholeLines, poolIn, findIn, linesWords}
 use Rattle.lowering.specs.Instrs.{mov32}
@@ -23,8 +24,8 @@ use Rattle.lowering.specs.Cache.{position, latest, oldest, chosen, spill
 use Rattle.lowering.specs.Cache.{reloadFrom, reload}
 use Rattle.lowering.specs.Steps.{moveWords, pushAll, popAll, lowered, opSteps, opsSteps, blockSteps}
 use Rattle.lowering.specs.Fragments.{addImm, brkFirst, even, loads, tryRegion, extended, alignTest, mapTest, stores, call, exitImm}
-use Rattle.lowering.specs.Fragments.{chain, ind, hold, checkBrk, fork, limit, load, store, stepCode, stepCache, stepsCode, opening}
-use Rattle.lowering.specs.Fragments.{closing}
+use Rattle.lowering.specs.Fragments.{chain, ind, hold, checkBrk, fork, limit, guard, load, store, stepCode, stepCache, stepsCode}
+use Rattle.lowering.specs.Fragments.{opening, closing}
 use Rattle.lowering.specs.Compile.{blockWords, blockLines, blockCode, sites, starts}
 use Rattle.lowering.specs.Commit.{commitCode, commitLines, commitWords}
 
@@ -52,6 +53,7 @@ first =
       memory = record { «ram_base» = 0x20000000; «ram_len» = 64; «xip_base» = 0x02000000; «xip_len» = 16; map = false };
       addresses = addresses;
       pc0 = 0x02000100;
+      guard = noGuard;
       ops =
           padded 32
           (record { fast = Alu3 0 1 2 Add; len = 2; glue = false }
@@ -99,6 +101,7 @@ second =
       memory = record { «ram_base» = 0x20000000; «ram_len» = 65536; «xip_base» = 0x02000000; «xip_len» = 16; map = true };
       addresses = addresses;
       pc0 = 0x02000200;
+      guard = noGuard;
       ops =
           padded 32
           (record { fast = Mov2 1 2 3 4; len = 2; glue = false }
@@ -145,6 +148,7 @@ third =
       memory = record { «ram_base» = 0x20000000; «ram_len» = 64; «xip_base» = 0x02000000; «xip_len» = 16; map = false };
       addresses = addresses;
       pc0 = 0x02000300;
+      guard = noGuard;
       ops =
           padded 32
           (record { fast = BlockMove 4 0x0012 true true true; len = 2; glue = false }
@@ -211,6 +215,7 @@ fourth =
       memory = record { «ram_base» = 0x20000000; «ram_len» = 64; «xip_base» = 0x02000000; «xip_len» = 16; map = true };
       addresses = addresses;
       pc0 = 0x02000400;
+      guard = noGuard;
       ops =
           padded 32
           (record { fast = St 1 (Reg 2) 8 B32; len = 2; glue = false }
@@ -289,3 +294,33 @@ pub fourth-commit : commitWords fourth ≡
     ∷ 0xa94363f7 ∷ 0xa9425bf5 ∷ 0xa94153f3 ∷ 0xa8c67bfd ∷ 0xd65f03c0 ∷ 0xd503201f ∷ 0x77778888 ∷ 0x55556666 ∷ []
 unfolding commitWords commitLines commitCode addImm brkFirst even loads tryRegion extended alignTest mapTest stores call exitImm chain ind hold checkBrk fork limit load store stepCode stepCache stepsCode opening closing position latest oldest chosen spill slotFor seated ldReg stReg stored flushFrom flush reloadFrom reload mov32 places upFrom moveWords pushAll popAll lowered opSteps opsSteps blockSteps index add halves padOf baseOf words lines instrs wholeLines poolIn findIn linesWords
 fourth-commit = refl
+
+-- A RAM block: behind the limit's test the guard, whose literals come first in the pool, the guard's record before the helper. One register
+-- moved, one chain site. Behind an odd length a nop.
+abbrev fifth : Block
+fifth =
+    record {
+      layout = layout;
+      memory = record { «ram_base» = 0x20000000; «ram_len» = 65536; «xip_base» = 0x02000000; «xip_len» = 16; map = false };
+      addresses = addresses;
+      pc0 = 0x20000500;
+      guard = record { at = 0x123456789abcdef0; «h_ram_ok» = 0xfedcba9876543210 };
+      ops = padded 32 (record { fast = Mov 3 1; len = 2; glue = false } ∷ []);
+      n = 1;
+    }
+
+pub fifth-words : blockWords fifth ≡
+    0xa9ba7bfd ∷ 0xa90153f3 ∷ 0xa9025bf5 ∷ 0xa90363f7 ∷ 0xa9046bf9 ∷ 0xa90573fb ∷ 0xaa0003f3 ∷ 0xaa0103f4
+    ∷ 0xaa0203f5 ∷ 0xaa0303f6 ∷ 0x2a0403fb ∷ 0xaa0503f9 ∷ 0x5280001a ∷ 0x11000749 ∷ 0x6b1b013f ∷ 0x540000c9
+    ∷ 0x5280a009 ∷ 0x72a40009 ∷ 0xb9004a69 ∷ 0x11000340 ∷ 0x1400001c ∷ 0xf9401689 ∷ 0x58000441 ∷ 0xf940002a
+    ∷ 0xeb0a013f ∷ 0x54000140 ∷ 0xaa1403e0 ∷ 0x580003e9 ∷ 0xd63f0120 ∷ 0x350000c0 ∷ 0x5280a009 ∷ 0x72a40009
+    ∷ 0xb9004a69 ∷ 0x11000340 ∷ 0x1400000e ∷ 0xb9400665 ∷ 0x2a0503e0 ∷ 0x2a0003e6 ∷ 0xb9000e66 ∷ 0x1100075a
+    ∷ 0x14000001 ∷ 0x5280a049 ∷ 0x72a40009 ∷ 0xb9004a69 ∷ 0x10ffff8a ∷ 0xf900128a ∷ 0x2a1a03e0 ∷ 0x14000001
+    ∷ 0xa94573fb ∷ 0xa9446bf9 ∷ 0xa94363f7 ∷ 0xa9425bf5 ∷ 0xa94153f3 ∷ 0xa8c67bfd ∷ 0xd65f03c0 ∷ 0xd503201f
+    ∷ 0x9abcdef0 ∷ 0x12345678 ∷ 0x76543210 ∷ 0xfedcba98 ∷ []
+unfolding blockWords blockLines blockCode sites starts addImm brkFirst even loads tryRegion extended alignTest mapTest stores call exitImm chain ind hold checkBrk fork limit guard load store stepCode stepCache stepsCode opening closing position latest oldest chosen spill slotFor seated ldReg stReg stored flushFrom flush reloadFrom reload mov32 lowered opSteps opsSteps blockSteps index add halves padOf baseOf words lines instrs wholeLines poolIn findIn linesWords
+fifth-words = refl
+
+pub fifth-sites : sites fifth ≡ record { at = 40; target = 0x20000502 } ∷ []
+unfolding blockWords blockLines blockCode sites starts addImm brkFirst even loads tryRegion extended alignTest mapTest stores call exitImm chain ind hold checkBrk fork limit guard load store stepCode stepCache stepsCode opening closing position latest oldest chosen spill slotFor seated ldReg stReg stored flushFrom flush reloadFrom reload mov32 lowered opSteps opsSteps blockSteps index add halves padOf baseOf words lines instrs wholeLines poolIn findIn linesWords
+fifth-sites = refl

@@ -16,7 +16,7 @@ use Rattle.lowering.specs.Instrs.{CPU, str}
 use Rattle.lowering.specs.Cache.{host, offReg, FREE, emptyCache, position, isHeld, oldest, chosen, slotFor}
 use Rattle.lowering.specs.Cache.{spill, ldReg, stReg, flush, reload}
 use Rattle.lowering.specs.Steps.{Step, blockSteps}
-use Rattle.lowering.specs.Fragments.{load, store, call, checkBrk, hold, chain, fork, ind, limit, exitImm}
+use Rattle.lowering.specs.Fragments.{load, store, call, checkBrk, hold, chain, fork, ind, limit, guard, exitImm}
 use Rattle.lowering.specs.Fragments.{stepCode, stepCache, stepsCode, opening, closing}
 use Rattle.lowering.specs.Compile.{blockCode, blockLines, blockWords}
 use Rattle.lowering.specs.Stamps.{Stamps, emptyStamps, oldestStamp, behindAll, uses, usesOf, asked, stampedCode, stampedWords}
@@ -75,7 +75,7 @@ module _ (blk : Block) {rc rc′ : RegCache} (a : AnswersAlike rc rc′) where
   loads = reload-like a (blk .layout)
 
   step-like : (s : Step) → stepCode blk rc {n = top} s ≡ stepCode blk rc′ {n = top} s
-  unfolding stepCode load store call checkBrk hold chain fork ind limit exitImm
+  unfolding stepCode load store call checkBrk hold chain fork ind limit guard exitImm
   step-like (Step.ldReg t r) = ap code (ldReg-like a (blk .layout) t r)
   step-like (Step.stReg t r) = ap code (stReg-like a (blk .layout) t r)
   step-like (Step.ldField f t) = refl
@@ -91,6 +91,7 @@ module _ (blk : Block) {rc rc′ : RegCache} (a : AnswersAlike rc rc′) where
   step-like (Step.fork c pc target n) = rw stores
   step-like (Step.ind t n brk) = rw stores
   step-like (Step.limit pc n) = rw stores
+  step-like (Step.guard at helper pc) = rw (stores, loads)
 
 -- ---- a step's uses
 step-uses : (s : Step) → uses (usesOf s) ≤ 1
@@ -108,6 +109,7 @@ step-uses (Step.chain pc n) = omega arith
 step-uses (Step.fork c pc target n) = omega arith
 step-uses (Step.ind t n brk) = omega arith
 step-uses (Step.limit pc n) = omega arith
+step-uses (Step.guard at helper pc) = omega arith
 
 step-behind : (rc : RegCache) (s : Step) → stepCache rc s ≡ behindAll (usesOf s) rc
 unfolding stepCache behindAll
@@ -125,6 +127,7 @@ step-behind rc (Step.chain pc n) = refl
 step-behind rc (Step.fork c pc target n) = refl
 step-behind rc (Step.ind t n brk) = refl
 step-behind rc (Step.limit pc n) = refl
+step-behind rc (Step.guard at helper pc) = refl
 
 -- ---- tied caches answer alike, step by step
 asked-alike : {n : ℕ} {st : Stamps} {rc : RegCache} → Tied n st rc → n < 2 ^ 32 → AnswersAlike (asked st) rc

@@ -20,3 +20,4 @@ targets-append (Step.chain pc count ∷ xs) ys = ap (λ l. pc ∷ l) (targets-ap
 targets-append (Step.fork cond pc target count ∷ xs) ys = ap (λ l. pc ∷ target ∷ l) (targets-append xs ys)
 targets-append (Step.ind t count brk ∷ xs) ys = targets-append xs ys
 targets-append (Step.limit pc count ∷ xs) ys = targets-append xs ys
+targets-append (Step.guard at helper pc ∷ xs) ys = targets-append xs ys

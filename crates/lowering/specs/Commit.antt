@@ -38,6 +38,7 @@ commitStep (Step.chain pc count) = Step.chain pc count
 commitStep (Step.fork cond pc target count) = Step.fork cond pc target count
 commitStep (Step.ind t count brk) = Step.ind t count brk
 commitStep (Step.limit pc count) = Step.limit pc count
+commitStep (Step.guard at helper pc) = Step.guard at helper pc
 
 unfoldable pub commitCode : Block → Code top
 commitCode blk = code opening then stepsCode blk emptyCache (map commitStep (blockSteps blk))
@@ -83,6 +84,7 @@ wordStore (Step.chain pc count) = false
 wordStore (Step.fork cond pc target count) = false
 wordStore (Step.ind t count brk) = false
 wordStore (Step.limit pc count) = false
+wordStore (Step.guard at helper pc) = false
 
 -- the places of a step's code at which the tests stand: one in a word store of a block "with map flag 1"
 abbrev pub tested : Block → Step → ℕ

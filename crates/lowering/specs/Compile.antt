@@ -52,6 +52,7 @@ targets (Step.chain pc count ∷ ss) = pc ∷ targets ss
 targets (Step.fork cond pc target count ∷ ss) = pc ∷ target ∷ targets ss
 targets (Step.ind t count brk ∷ ss) = targets ss
 targets (Step.limit pc count ∷ ss) = targets ss
+targets (Step.guard at helper pc ∷ ss) = targets ss
 
 abbrev pub zipSites : List ℕ → List ℕ → List Site
 zipSites [] ts = []

@@ -18,9 +18,9 @@ use Rattle.block.specs.Block.{bytes}
 use Rattle.code.specs.Items.{pick, b, bCond, cb, tb}
 use Rattle.code.specs.Tree.{Depth, top, under, Var, inner, outer, Code, code, lit, to, exit, block, start, _then_}
 use Rattle.lowering.specs.declared.RegCache.{RegCache}
-use Rattle.lowering.specs.Instrs.{CPU, CTX, RAM, XIP, KEEP, KEEP2, FLAGS, DONE, LIMIT, NE, HI, LS, mov, movX, movz, mov32, addI}
-use Rattle.lowering.specs.Instrs.{subI, add, addXLsl, sub, cmp, and, ubfx, sbfx, lsrI, ldr, str, ldrX, strX, indexed, frame, blr}
-use Rattle.lowering.specs.Instrs.{br, ret}
+use Rattle.lowering.specs.Instrs.{CPU, CTX, RAM, XIP, KEEP, KEEP2, FLAGS, DONE, LIMIT, EQ, NE, HI, LS, mov, movX, movz, mov32}
+use Rattle.lowering.specs.Instrs.{addI, subI, add, addXLsl, sub, cmp, cmpX, and, ubfx, sbfx, lsrI, ldr, str, ldrX, strX, indexed}
+use Rattle.lowering.specs.Instrs.{frame, blr, br, ret}
 use Rattle.lowering.specs.Cache.{ldReg, stReg, seated, stored, flush, reload}
 use Rattle.lowering.specs.Steps.{Field, sp, rets, Step}
 pub use Rattle.lowering.specs.Steps.{minus}
@@ -31,6 +31,9 @@ OFF-BRK = 24
 
 abbrev pub OFF-SLOT : ℕ
 OFF-SLOT = 32
+
+abbrev pub OFF-VER : ℕ
+OFF-VER = 40
 
 abbrev pub fieldAt : Layout → Field → ℕ
 fieldAt lay sp = lay .sp
@@ -145,6 +148,19 @@ module _ (blk : Block) (rc : RegCache) where
   unfoldable pub limit : {n : Depth} → (pc count : ℕ) → Code n
   limit pc count = block (code (addI 9 DONE count ∷ cmp 9 LIMIT ∷ []) then to (bCond LS) inner then exitImm pc 0)
 
+  -- the version of the context and that at byte 0 of the guard, 64 bits each: where they are equal there is no call
+  unfoldable pub guard : {n : Depth} → (at helper pc : ℕ) → Code n
+  guard at helper pc =
+      block
+      (code (ldrX 9 CTX OFF-VER ∷ [])
+      then lit 1 at
+      then code (ldrX 10 1 0 ∷ cmpX 9 10 ∷ [])
+      then to (bCond EQ) inner
+      then code (movX 0 CTX ∷ [])
+      then call helper
+      then to (cb W nonzero 0) inner
+      then exitImm pc 0)
+
   -- blocks from outside: done, slow, xip
   unfoldable pub load : {n : Depth} → Width → Bool → (i : ℕ) → Code n
   load w signed i =
@@ -186,6 +202,7 @@ module _ (blk : Block) (rc : RegCache) where
   stepCode (Step.fork cond pc target count) = fork cond pc target count
   stepCode (Step.ind t count brk) = ind t count brk
   stepCode (Step.limit pc count) = limit pc count
+  stepCode (Step.guard at helper pc) = guard at helper pc
 
 -- the register cache behind a step
 unfoldable pub stepCache : RegCache → Step → RegCache
@@ -203,6 +220,7 @@ stepCache rc (Step.chain pc count) = rc
 stepCache rc (Step.fork cond pc target count) = rc
 stepCache rc (Step.ind t count brk) = rc
 stepCache rc (Step.limit pc count) = rc
+stepCache rc (Step.guard at helper pc) = rc
 
 -- steps in order
 unfoldable pub stepsCode : Block → RegCache → List Step → Code top

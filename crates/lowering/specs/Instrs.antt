@@ -135,6 +135,9 @@ sub rd rn rm = AddSubShifted W Sub Keeps Lsl rm 0 rn rd
 abbrev pub cmp : (rn rm : ℕ) → Instr
 cmp rn rm = AddSubShifted W Sub Sets Lsl rm 0 rn ZR
 
+abbrev pub cmpX : (rn rm : ℕ) → Instr
+cmpX rn rm = AddSubShifted X Sub Sets Lsl rm 0 rn ZR
+
 abbrev pub neg : (rd rm : ℕ) → Instr
 neg rd rm = sub rd ZR rm
 

@@ -120,6 +120,7 @@ usesOf (Step.chain pc count) = []
 usesOf (Step.fork cond pc target count) = []
 usesOf (Step.ind t count brk) = []
 usesOf (Step.limit pc count) = []
+usesOf (Step.guard at helper pc) = []
 
 -- a step asks three things of a cache: what is held, what is marked, and the slot to give up, which here is the one that the stamps tell
 abbrev pub asked : Stamps → RegCache

@@ -31,7 +31,7 @@ use Rattle.block.specs.declared.Fast.the-variants.{PushRet, PopRets, BrI, BrR, 
 use Rattle.block.specs.declared.Fast.the-variants.{BlockMove, PushRets, PopPc, LdPair, StPair}
 use Rattle.block.specs.declared.BOp.{BOp}
 use Rattle.block.specs.declared.Block.{Block}
-use Rattle.block.specs.Block.{opsOf, mayJump, usesBus, members, span, saved, pairOf}
+use Rattle.block.specs.Block.{opsOf, mayJump, usesBus, inFlash, members, span, saved, pairOf}
 use Rattle.code.specs.Items.{pick}
 use Rattle.lowering.specs.Instrs.{KEEP, ZR, EQ, NE, HS, LO, HI, LS, GE, LT, GT, LE, mov, movz, addI, subI, cmpI, add, addLsl, sub}
 use Rattle.lowering.specs.Instrs.{cmp, neg, and, bic, orr, eor, mvn, tst, rev, clz, sdiv, udiv, lslv, lsrv, asrv, mul, msub, csel}
@@ -55,6 +55,7 @@ pub data Step : Type 0 where
   fork : (cond pc target count : ℕ) → Step  -- go on at target if the condition holds, else at pc
   ind : (t count : ℕ) → (brk : Bool) → Step  -- go on at pc w(t), the break word asked first or not
   limit : (pc count : ℕ) → Step  -- leave for pc unless so many operations fit
+  guard : (at helper pc : ℕ) → Step  -- leave for pc if the versions differ and the helper answers 0
 
 -- ---- the choices inside an operation
 -- w0 = op(w0, w1)
@@ -266,6 +267,10 @@ unfoldable pub opsSteps : (i pc : ℕ) → List BOp → List Step
 opsSteps i pc [] = chain pc i ∷ []
 opsSteps i pc (o ∷ os) = opSteps o i (behind pc o) ++ pick (mayJump (o .fast)) [] (opsSteps (i + 1) (behind pc o) os)
 
+-- "`compile` for a RAM block": outside flash's range there is a guard
+abbrev pub guardSteps : Block → List Step
+guardSteps b = pick (inFlash (b .pc0)) [] (guard (b .guard .at) (b .guard .«h_ram_ok») (b .pc0) ∷ [])
+
 -- the whole block must fit the limit, else it leaves before running any of it
 unfoldable pub blockSteps : Block → List Step
-blockSteps b = limit (b .pc0) (b .n) ∷ opsSteps 0 (b .pc0) (opsOf b)
+blockSteps b = limit (b .pc0) (b .n) ∷ (guardSteps b ++ opsSteps 0 (b .pc0) (opsOf b))

@@ -8,7 +8,7 @@ use mathlib.Core.Logic.{_≢_}
 use mathlib.Core.Bool.{Bool, true, false, cond, not, _&&_}
 use mathlib.Core.Option.{Option, none, some}
 use mathlib.Core.List.{List, [], _∷_}
-use Prim.Native.Nat.{ℕ, zero, suc, _+_, _*_, _%_, _^_, _≤_}
+use Prim.Native.Nat.{ℕ, zero, suc, _+_, _*_, _%_, _^_, _≤_, _<_}
 use native.Mathlib.Omega.{arith}
 use borrow.Author.Tests.{eqb-false}
 use lib.Dec.{eqb}
@@ -16,9 +16,9 @@ use lib.ListN.{length, length-set}
 use Rattle.machine.specs.Isa.{W, X, Flags, Keeps, Sets, Mode, Post, Offset, Pre, Pair, Stp, Ldp, Jump, Br, Blr, Ret}
 use Rattle.machine.specs.Isa.{Instr, MoveWide, AddSubImm, AddSubShifted, LogicalShifted, LogicalImm, Bitfield, OneSource, TwoSource, ThreeSource, CondSelect, MemoryImm, MemoryReg, MemoryPair, CompareBranch, TestBranch, CondBranch, Branch, BranchReg, Adr, LoadLiteral, Nop, FloatTwo, FloatCompare, FloatConvert}
 use Rattle.machine.specs.Bits.{SignExtend, Nzcv, Sum}
-use Rattle.machine.specs.State.{Region, State, Request, read, write, Outcome, code, context, ram, xip, map, R, RSP, withX, withSP, withMem, withXSP, goto}
+use Rattle.machine.specs.State.{Region, State, Request, read, write, guard, Outcome, code, context, ram, xip, map, guards, R, RSP, withX, withSP, withMem, withXSP, goto}
 use Rattle.machine.specs.Memory.{writeLE, Place, bytesOf, baseOf, withBytes, load, stored, store, locate}
-use Rattle.machine.specs.Execute.{Helpers, Effect, next, returned, jumped, refused, done, accessed, addSub, flagsIf, destination, shifted, second, logic, logicFlags, testFlags, bitMask, Direction, stores, loads, loadsSigned, direction, accessBytes, access, scaleBy, pairAddress, writeback, pair, words, called, ask, jump, execute}
+use Rattle.machine.specs.Execute.{Helpers, Effect, next, returned, jumped, refused, done, accessed, addSub, flagsIf, destination, shifted, second, logic, logicFlags, testFlags, bitMask, Direction, stores, loads, loadsSigned, direction, accessBytes, access, scaleBy, pairAddress, writeback, pair, words, withVersion, versioned, told, called, ask, jump, execute}
 use Rattle.machine.specs.Machine.{Status, running, atReturn, atJump, fault, Run, fetch, instruction, outcome, decoded, fetched, step, following, run}
 use Rattle.machine.proofs.Registers.{length-called}
 use Rattle.machine.proofs.Regions.{length-with, base-with, bytes-other}
@@ -107,13 +107,17 @@ same-writeback Post n v s = same-xsp n v s
 same-writeback Offset n v s = same-refl s
 same-writeback Pre n v s = same-xsp n v s
 
+mem-versioned : (i : ℕ) (vs : List ℕ) (m : List Region) → xip < i → KeptMem m (versioned i vs m)
+mem-versioned i [] m l = mem-refl m
+mem-versioned i (v ∷ vs) m l = mem-trans (mem-with i (withVersion v (bytesOf m i)) m (omega arith) (omega arith)) (mem-versioned (suc i) vs (withBytes i (withVersion v (bytesOf m i)) m) (omega arith))
+
 same-called : (q : Request) (o : Outcome) (os : List Outcome) (s : State) → Same s (called q o os s)
 same-called q o os s =
     record {
       registers = length-called q o os s;
       count = refl;
-      memory = mem-trans (mem-with context (writeLE (bytesOf (s .mem) context) 24 4 (o .brk)) (s .mem) (omega arith) (omega arith))
-          (mem-trans (mem-with ram (o .ram) _ (omega arith) (omega arith)) (mem-with map (o .map) _ (omega arith) (omega arith)));
+      memory = mem-trans (mem-with context (told o (bytesOf (s .mem) context)) (s .mem) (omega arith) (omega arith))
+          (mem-trans (mem-with ram (o .ram) _ (omega arith) (omega arith)) (mem-trans (mem-with map (o .map) _ (omega arith) (omega arith)) (mem-versioned guards (o .guards) _ (omega arith))));
     }
 
 keeps-goto : {s t : State} (a : ℕ) → Same s t → Kept s (goto a t)
@@ -162,7 +166,8 @@ keeps-jump h Br a s = keeps-goto a (same-refl s)
 keeps-jump h Ret a s = keeps-goto a (same-refl s)
 keeps-jump h Blr a s =
     keeps-cond s (eqb a (h .h-read)) _ _ (keeps-ask (read (R W s 1) (R W s 3) (R W s 2)) (s .outcomes) s)
-    (keeps-cond s (eqb a (h .h-write)) _ _ (keeps-ask (write (R W s 1) (R W s 4) (R W s 3) (R W s 2)) (s .outcomes) s) (keeps-goto a (same-x 30 ((s .pc + 4) % 2 ^ 64) s)))
+    (keeps-cond s (eqb a (h .h-write)) _ _ (keeps-ask (write (R W s 1) (R W s 4) (R W s 3) (R W s 2)) (s .outcomes) s)
+    (keeps-cond s (eqb a (h .h-ram-ok)) _ _ (keeps-ask (guard (R X s 1)) (s .outcomes) s) (keeps-goto a (same-x 30 ((s .pc + 4) % 2 ^ 64) s))))
 
 keeps-set : (s : State) (f : Flags) (g : Nzcv) (rd v : ℕ) → KeptBy s (done (withX rd v (flagsIf f g s)))
 keeps-set s f g rd v = done-keeps s (withX rd v (flagsIf f g s)) (same-trans (same-flags f g s) (same-x rd v (flagsIf f g s)))

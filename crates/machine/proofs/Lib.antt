@@ -8,6 +8,8 @@ pub mod Values
 pub mod Data
 pub mod Access
 pub mod Control
+pub mod Versions
+pub mod Calls
 pub mod Keeps
 pub mod Placed
 pub mod Fetch

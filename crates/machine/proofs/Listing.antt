@@ -42,7 +42,7 @@ start =
 -- a run allowed as many steps as there are words
 end : Run
 unfolding start words bytesOfWords run step fetch instruction execute hasEncoder load store locate within readLE writeLE SInt SignExtend CountLeadingZeroBits AddWithCarry ConditionHolds decode find sizeOf addSubOf flagsOf shiftOf moveOf logicOf secondOf extractOf oneOf twoOf threeOf selectOf accessOf scaleOf modeOf pairOf testOf jumpOf floatOf convertOf
-end = run 35 (record { h-read = 0x90000; h-write = 0x90010 }) start
+end = run 35 (record { h-read = 0x90000; h-write = 0x90010; h-ram-ok = 0x90020 }) start
 
 status : end .status ≡ atReturn
 unfolding end

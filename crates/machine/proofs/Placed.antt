@@ -15,7 +15,7 @@ use lib.Dec.{T, eqb}
 use Rattle.machine.specs.Isa.{W, X, Flags, Keeps, Sets, Mode, Post, Offset, Pre, Pair, Stp, Ldp, Br, Blr, Ret}
 use Rattle.machine.specs.Isa.{Instr, MoveWide, AddSubImm, AddSubShifted, LogicalShifted, LogicalImm, Bitfield, OneSource, TwoSource, ThreeSource, CondSelect, MemoryImm, MemoryReg, MemoryPair, CompareBranch, TestBranch, CondBranch, Branch, BranchReg, Adr, LoadLiteral, Nop, FloatTwo, FloatCompare, FloatConvert}
 use Rattle.machine.specs.Bits.{SignExtend, Nzcv, Sum}
-use Rattle.machine.specs.State.{State, Request, read, write, Outcome, R, RSP, withX, withSP, withMem, withXSP}
+use Rattle.machine.specs.State.{State, Request, read, write, guard, Outcome, R, RSP, withX, withSP, withMem, withXSP}
 use Rattle.machine.specs.Memory.{load, store}
 use Rattle.machine.specs.Execute.{Helpers, Effect, next, returned, jumped, refused, done, accessed, addSub, flagsIf, destination, shifted, second, logic, logicFlags, testFlags, bitMask, Direction, stores, loads, loadsSigned, direction, accessBytes, access, scaleBy, pairAddress, writeback, pair, ask, call, execute}
 
@@ -139,12 +139,18 @@ module _ (p n : ℕ) where
   execute-at h (FloatCompare rm rn) s t = refl
   execute-at h (FloatConvert o rn rd) s t = refl
 
-  call-at : (h : Helpers) (a : ℕ) (s : State) (b c : Bool) → eqb a (h .h-read) ≡ b → eqb a (h .h-write) ≡ c → (a ≡ h .h-read) ⊎ (a ≡ h .h-write) → call h a (at p n s) ≡ placed p n (call h a s)
-  call-at h a s true c e f w = rw e (ask-at (read (R W s 1) (R W s 3) (R W s 2)) (s .outcomes) s)
-  call-at h a s false true e f w = rw (e, f) (ask-at (write (R W s 1) (R W s 4) (R W s 3) (R W s 2)) (s .outcomes) s)
-  call-at h a s false false e f (inl w) = absurd (eqb-false a (h .h-read) e w)
-  call-at h a s false false e f (inr w) = absurd (eqb-false a (h .h-write) f w)
+  -- a helper's address
+  abbrev pub AHelper : Helpers → ℕ → Type 0
+  AHelper h a = (a ≡ h .h-read) ⊎ ((a ≡ h .h-write) ⊎ (a ≡ h .h-ram-ok))
 
-  pub execute-call-at : (h : Helpers) (rn : ℕ) (s : State) → (R X s rn ≡ h .h-read) ⊎ (R X s rn ≡ h .h-write) → execute h (BranchReg Blr rn) (at p n s) ≡ placed p n (execute h (BranchReg Blr rn) s)
+  call-at : (h : Helpers) (a : ℕ) (s : State) (b c d : Bool) → eqb a (h .h-read) ≡ b → eqb a (h .h-write) ≡ c → eqb a (h .h-ram-ok) ≡ d → AHelper h a → call h a (at p n s) ≡ placed p n (call h a s)
+  call-at h a s true c d e f g w = rw e (ask-at (read (R W s 1) (R W s 3) (R W s 2)) (s .outcomes) s)
+  call-at h a s false true d e f g w = rw (e, f) (ask-at (write (R W s 1) (R W s 4) (R W s 3) (R W s 2)) (s .outcomes) s)
+  call-at h a s false false true e f g w = rw (e, f, g) (ask-at (guard (R X s 1)) (s .outcomes) s)
+  call-at h a s false false false e f g (inl w) = absurd (eqb-false a (h .h-read) e w)
+  call-at h a s false false false e f g (inr (inl w)) = absurd (eqb-false a (h .h-write) f w)
+  call-at h a s false false false e f g (inr (inr w)) = absurd (eqb-false a (h .h-ram-ok) g w)
+
+  pub execute-call-at : (h : Helpers) (rn : ℕ) (s : State) → AHelper h (R X s rn) → execute h (BranchReg Blr rn) (at p n s) ≡ placed p n (execute h (BranchReg Blr rn) s)
   unfolding execute
-  execute-call-at h rn s w = call-at h (R X s rn) s (eqb (R X s rn) (h .h-read)) (eqb (R X s rn) (h .h-write)) refl refl w
+  execute-call-at h rn s w = call-at h (R X s rn) s (eqb (R X s rn) (h .h-read)) (eqb (R X s rn) (h .h-write)) (eqb (R X s rn) (h .h-ram-ok)) refl refl refl w

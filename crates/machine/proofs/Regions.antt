@@ -17,7 +17,7 @@ use native.Mathlib.Nat.{mod-eq-of-lt}
 use native.Mathlib.Omega.{arith}
 use borrow.Author.Tests.{le-leb, lt-leb}
 use lib.Dec.{leb}
-use lib.ListN.{length, getD, length-set}
+use lib.ListN.{length, getD, set, drop, length-set}
 use lib.Seq.{getD-set-same, getD-set-other}
 use Rattle.machine.specs.State.{Region, code, xip}
 use Rattle.machine.specs.Memory.{readLE, writeLE, within, locate, nowhere, bytesOf, baseOf, sizeOf, withBytes, loaded, load, writable, stored, store, Disjoint, Apart}
@@ -166,3 +166,13 @@ with-with zero l l′ [] = refl
 with-with (suc k) l l′ [] = refl
 with-with zero l l′ (r ∷ m) = refl
 with-with (suc k) l l′ (r ∷ m) = ap (λ q. r ∷ q) (with-with k l l′ m)
+
+-- regions behind the one whose bytes are others
+drop-set : {A : Type 0} (n k : ℕ) (x : A) (l : List A) → k < n → drop n (set l k x) ≡ drop n l
+drop-set zero k x l h = absurd (omega arith)
+drop-set (suc n) k x [] h = refl
+drop-set (suc n) zero x (a ∷ l) h = refl
+drop-set (suc n) (suc k) x (a ∷ l) h = drop-set n k x l (omega arith)
+
+pub drop-with : (n k : ℕ) (l : List ℕ) (m : List Region) → k < n → drop n (withBytes k l m) ≡ drop n m
+drop-with n k l m h = drop-set n k (record { base = baseOf m k; bytes = l }) m h

@@ -16,13 +16,15 @@ use Rattle.machine.specs.Isa.{Select, Csel, Csinc, Csinv, Csneg, Access,
 use Rattle.machine.specs.Isa.{Scale, Unscaled, Scaled, Mode, Post, Offset, Pre, Pair, Stp, Ldp, Test, Zero, Nonzero, Jump, Br, Blr, Ret}
 use Rattle.machine.specs.Isa.{Instr, MoveWide, AddSubImm, AddSubShifted, LogicalShifted, LogicalImm, Bitfield, OneSource, TwoSource, ThreeSource, CondSelect, MemoryImm, MemoryReg, MemoryPair, CompareBranch, TestBranch, CondBranch, Branch, BranchReg, Adr, LoadLiteral, Nop, FloatTwo, FloatCompare, FloatConvert}
 use Rattle.machine.specs.Bits.{bit, IsZero, SInt, toBits, SignExtend, NOT, LSL, LSR, ASR, ROR, insert, CountLeadingZeroBits, byte, bytes4, Nzcv, Sum, AddWithCarry, ConditionHolds}
-use Rattle.machine.specs.State.{Request, read, write, Outcome, State, context, ram, map, R, RSP, withX, withFlags, withMem, withXSP, goto}
+use Rattle.machine.specs.State.{Region, Request, read, write, guard, Outcome, State, context, ram, map, guards}
+use Rattle.machine.specs.State.{R, RSP, withX, withFlags, withMem, withXSP, goto}
 use Rattle.machine.specs.Memory.{writeLE, bytesOf, withBytes, load, store}
 
 -- the addresses that stand for the outside
 pub record Helpers : Type 0 where
   pub h-read : ℕ
   pub h-write : ℕ
+  pub h-ram-ok : ℕ
 
 -- an instruction goes on, leaves by the return or by a jump, or is refused with a number of 2026-08
 pub data Effect : Type 0 where
@@ -202,13 +204,27 @@ abbrev pub overwritten : ℕ → List ℕ → List ℕ → List ℕ
 overwritten zero l x = x
 overwritten (suc n) l x = overwritten n l (set x n (getD l n 0))
 
--- a read's answer is in W0; the upper half of X0, and after a write all of it, is anything
+-- a read's answer is in W0, and a guard's; the upper half of X0, and after a write all of it, is anything
 abbrev pub answered : Request → Outcome → ℕ
 answered (read a w d) o = o .answer % 2 ^ 32 + getD (o .scratch) 0 0 / 2 ^ 32 * 2 ^ 32
 answered (write a w d v) o = getD (o .scratch) 0 0
+answered (guard a) o = o .answer % 2 ^ 32 + getD (o .scratch) 0 0 / 2 ^ 32 * 2 ^ 32
 
--- "keeps registers 19 to 28 and sp, and alters nothing else but registers 0 to 18, 29 (restored), 30 and flags"; the break word at byte 24
--- of the context, RAM and the code map are the outcome's
+-- the context afterwards: the break word at byte 24, the version at byte 40
+abbrev pub told : Outcome → List ℕ → List ℕ
+told o l = writeLE (writeLE l 24 4 (o .brk)) 40 8 (o .version)
+
+-- a guard's record with this version, at byte 0
+abbrev pub withVersion : ℕ → List ℕ → List ℕ
+withVersion v l = writeLE l 0 8 v
+
+-- the guards' records afterwards, from region i on, as many as versions are given
+abbrev pub versioned : (i : ℕ) → List ℕ → List Region → List Region
+versioned i [] m = m
+versioned i (v ∷ vs) m = versioned (suc i) vs (withBytes i (withVersion v (bytesOf m i)) m)
+
+-- "keeps registers 19 to 28 and sp, and alters nothing else but registers 0 to 18, 29 (restored), 30 and flags"; the break word, RAM,
+-- the code map and the versions are the outcome's
 abbrev pub called : Request → Outcome → List Outcome → State → State
 called q o os s =
     record {
@@ -216,7 +232,9 @@ called q o os s =
       sp = s .sp;
       nzcv = o .nzcv;
       pc = s .pc;
-      mem = withBytes map (o .map) (withBytes ram (o .ram) (withBytes context (writeLE (bytesOf (s .mem) context) 24 4 (o .brk)) (s .mem)));
+      mem =
+          versioned guards (o .guards)
+          (withBytes map (o .map) (withBytes ram (o .ram) (withBytes context (told o (bytesOf (s .mem) context)) (s .mem))));
       outcomes = os;
       requests = s .requests ++ (q ∷ []);
       count = s .count;
@@ -227,13 +245,14 @@ abbrev pub ask : Request → List Outcome → State → Effect
 ask q [] s = refused 20
 ask q (o ∷ os) s = done (called q o os s)
 
--- BLR: a helper's arguments are the context in X0, then address, done count, width and, to write, the value; any other address is
--- branched to with the link
+-- BLR: a helper's arguments are the context in X0, then address, done count, width and, to write, the value; of `h_ram_ok` the context
+-- and the guard's address; any other address is branched to with the link
 abbrev pub call : Helpers → ℕ → State → Effect
 call h a s =
     cond (eqb a (h .h-read)) (ask (read (R W s 1) (R W s 3) (R W s 2)) (s .outcomes) s)
     (cond (eqb a (h .h-write)) (ask (write (R W s 1) (R W s 4) (R W s 3) (R W s 2)) (s .outcomes) s)
-    (next (goto a (withX 30 ((s .pc + 4) % 2 ^ 64) s))))
+    (cond (eqb a (h .h-ram-ok)) (ask (guard (R X s 1)) (s .outcomes) s)
+    (next (goto a (withX 30 ((s .pc + 4) % 2 ^ 64) s)))))
 
 abbrev pub jump : Helpers → Jump → ℕ → State → Effect
 jump h Br a s = jumped (goto a s)

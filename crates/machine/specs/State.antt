@@ -13,18 +13,23 @@ pub record Region : Type 0 where
   pub base : ℕ
   pub bytes : List ℕ
 
--- "A read request is address .., width and done count plus the operation's position; a write request adds all 32 bits of the value"
+-- "A read request is address .., width and done count plus the operation's position; a write request adds all 32 bits of the value".
+-- 2026-06: "the guard's address is the request"
 pub data Request : Type 0 where
   read : (address width done : ℕ) → Request
   write : (address width done value : ℕ) → Request
+  guard : (address : ℕ) → Request
 
 -- "an answer that fits the width, the break word, RAM and map afterwards, and any values whatever for the other registers and
--- flags that a call alters": registers 0 to 18 and register 30
+-- flags that a call alters": registers 0 to 18 and register 30. 2026-06: "Outcomes now give the versions afterwards too": the
+-- context's, and those of the guards
 pub record Outcome : Type 0 where
   pub answer : ℕ
   pub brk : ℕ
   pub ram : List ℕ
   pub map : List ℕ
+  pub version : ℕ
+  pub guards : List ℕ
   pub scratch : List ℕ
   pub link : ℕ
   pub nzcv : Nzcv
@@ -63,6 +68,10 @@ map = 6
 
 abbrev pub table : ℕ
 table = 7
+
+-- "the guard record lies apart from the rest": the guards' records, any number of them, from here on
+abbrev pub guards : ℕ
+guards = 8
 
 -- ---- registers. There are 31: register 31 reads as zero, and a write to it changes nothing (C1.2.5)
 -- X[n], W[n]

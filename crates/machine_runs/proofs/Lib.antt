@@ -6,5 +6,6 @@ pub mod Select
 pub mod Memory
 pub mod Control
 pub mod Calls
+pub mod Guards
 pub mod Regions
 pub mod Words

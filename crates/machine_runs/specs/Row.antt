@@ -1,5 +1,5 @@
 -- A row: the word of an instruction, in what its start differs from the common one, and in what its end differs from its start. The numbers
--- of the ends are those of an independent A64 emulator; of calls and faults, those of document 01.
+-- of the ends are those of an independent A64 emulator; of calls and faults, those of documents 01 and 02.
 use mathlib.Core.List.{List, [], _∷_, _++_, map}
 use Prim.Native.Nat.{ℕ, zero, suc, _+_, _*_, _/_, _%_, _^_}
 use lib.ListN.{getD, set, drop}
@@ -43,7 +43,7 @@ memory =
     ∷ []
 
 abbrev pub helpers : Helpers
-helpers = record { h-read = 0x600000000; h-write = 0x600000010 }
+helpers = record { h-read = 0x600000000; h-write = 0x600000010; h-ram-ok = 0x600000020 }
 
 abbrev pub common : State
 common =
@@ -103,18 +103,68 @@ replied r k n = counting (λ i. (29 * i + 7 * k + r) % 256) 0 n
 
 abbrev pub outcome : Reply → Outcome
 outcome (reply a b l f k) =
-    record { answer = a; brk = b; ram = replied S.ram k 64; map = replied S.map k 16; scratch = scratch a k; link = l; nzcv = flags f }
+    record {
+      answer = a;
+      brk = b;
+      ram = replied S.ram k 64;
+      map = replied S.map k 16;
+      version = 0;
+      guards = [];
+      scratch = scratch a k;
+      link = l;
+      nzcv = flags f;
+    }
+
+-- ---- a guard's request (2026-06): the context has its version, and there are two guards
+abbrev pub withGuards : List Region → List Region
+withGuards m = set m S.context (region S.context 0x710000000 48) ++ (region 8 0x750000000 16 ∷ region 9 0x760000000 16 ∷ [])
+
+-- the versions afterwards: the context's, and those of the guards
+pub data Versions : Type 0 where
+  versions : (context first second : ℕ) → Versions
+
+abbrev pub giving : Versions → Outcome → Outcome
+giving (versions v g h) o =
+    record {
+      answer = o .answer;
+      brk = o .brk;
+      ram = o .ram;
+      map = o .map;
+      version = v;
+      guards = g ∷ h ∷ [];
+      scratch = o .scratch;
+      link = o .link;
+      nzcv = o .nzcv;
+    }
+
+abbrev pub given : Versions → List Region → List Region
+given (versions v g h) m = putIn 9 0 8 h (putIn 8 0 8 g (putIn S.context 40 8 v m))
 
 -- ---- rows: the word stands at place k of the code, in words
 pub data Row : Type 0 where
   runs returns jumps : (k word : ℕ) → (start end : Changes) → Row
   faults : (number k word : ℕ) → (start : Changes) → Row
   calls : (k word : ℕ) → (start : Changes) → Request → Reply → (left : List Reply) → Row
+  asks : (k word : ℕ) → (start : Changes) → (guard : ℕ) → Reply → Versions → Row
 
 abbrev pub starting : (k word : ℕ) → Changes → List Reply → State
 starting k w c rs =
     let s : State = changed (pc (codeBase + 4 * k) & bytes S.code (4 * k) 4 w & c) common in
     record { x = s .x; sp = s .sp; nzcv = s .nzcv; pc = s .pc; mem = s .mem; outcomes = map outcome rs; requests = []; count = 0 }
+
+abbrev pub asking : (k word : ℕ) → Changes → Reply → Versions → State
+asking k w c r v =
+    let s : State = starting k w c [] in
+    record {
+      x = s .x;
+      sp = s .sp;
+      nzcv = s .nzcv;
+      pc = s .pc;
+      mem = withGuards (s .mem);
+      outcomes = giving v (outcome r) ∷ [];
+      requests = [];
+      count = 0;
+    }
 
 abbrev pub start : Row → State
 start (runs k w c e) = starting k w c []
@@ -122,6 +172,7 @@ start (returns k w c e) = starting k w c []
 start (jumps k w c e) = starting k w c []
 start (faults f k w c) = starting k w c []
 start (calls k w c q r rs) = starting k w c (r ∷ rs)
+start (asks k w c a r v) = asking k w c r v
 
 -- one instruction later
 abbrev pub passed : State → State
@@ -142,12 +193,17 @@ answered q (reply a b l f k) rs s =
       count = 1;
     }
 
+-- the same with the versions afterwards
+abbrev pub answeredWith : Versions → State → State
+answeredWith v s = like s (s .x) (s .sp) (s .nzcv) (s .pc) (given v (s .mem))
+
 abbrev pub ends : Row → Run
 ends (runs k w c e) = record { status = running; state = changed e (passed (starting k w c [])) }
 ends (returns k w c e) = record { status = atReturn; state = changed e (passed (starting k w c [])) }
 ends (jumps k w c e) = record { status = atJump; state = changed e (passed (starting k w c [])) }
 ends (faults f k w c) = record { status = fault f; state = starting k w c [] }
 ends (calls k w c q r rs) = record { status = running; state = answered q r rs (starting k w c (r ∷ rs)) }
+ends (asks k w c a r v) = record { status = running; state = answeredWith v (answered (S.guard a) r [] (asking k w c r v)) }
 
 -- ---- one step of the machine
 unfoldable pub stepped : Row → Run

@@ -90,7 +90,7 @@ fn try_region(
 }
 
 // A helper call, with the guest registers in memory.
-fn call_helper(
+pub fn call_helper(
     out: &mut [u32],
     tab: &mut [u64; 6152],
     a: Asm,

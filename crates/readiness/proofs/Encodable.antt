@@ -39,9 +39,10 @@ use Rattle.block.specs.declared.Fast.the-variants.{PushRet, PopRets, BrI, BrR, 
 use Rattle.block.specs.declared.Fast.the-variants.{BlockMove, PushRets, PopPc, LdPair, StPair}
 use Rattle.block.specs.declared.BOp.{BOp}
 use Rattle.block.specs.declared.Layout.{Layout}
+use Rattle.block.specs.declared.Guard.{Guard}
 use Rattle.block.specs.declared.Block.{Block}
-use Rattle.block.specs.Block.{opsOf, mayJump, usesBus, bytes, members, span, saved, pairOf}
-use Rattle.block.specs.Checked.{AddressesFit}
+use Rattle.block.specs.Block.{opsOf, mayJump, usesBus, inFlash, bytes, members, span, saved, pairOf}
+use Rattle.block.specs.Checked.{AddressesFit, GuardFits}
 use Rattle.code.specs.Items.{pick, Hole, b, bCond, cb, tb, adr, ldr}
 use Rattle.code.specs.Tree.{Depth, top, under, Var, Code, code, lit, to, exit, block, start, _then_}
 use Rattle.machine.specs.Encoders.{encoders, hasEncoder}
@@ -54,7 +55,7 @@ use Rattle.lowering.specs.Cache.{ldReg as ldRegCode, stReg as stRegCode}
 use Rattle.lowering.specs.Steps.{Step, lowered, opSteps, opsSteps, blockSteps, behind, alu, acond, ext, choice, rhs, base, un, div, low}
 use Rattle.lowering.specs.Steps.{rmwValue, moveWords, moveBase, pushAll, popAll}
 use Rattle.lowering.specs.Fragments.{minus, addImm, brkFirst, even, loads, tryRegion, extended, alignTest, mapTest, stores, call, exitImm}
-use Rattle.lowering.specs.Fragments.{chain, ind, hold, checkBrk, fork, limit, load, store, stepCode, stepCache, stepsCode, opening}
+use Rattle.lowering.specs.Fragments.{chain, ind, hold, checkBrk, fork, limit, guard, load, store, stepCode, stepCache, stepsCode, opening}
 use Rattle.lowering.specs.Fragments.{closing}
 use Rattle.lowering.specs.Compile.{blockCode}
 
@@ -191,6 +192,11 @@ module _ (blk : Block) (rc : RegCache) (addresses : AddressesFit (blk .addresses
   unfolding limit Encodable hasEncoder encoders
   limit-known n pc count = ((refl, (refl, tt)), (omega arith, exitImm-known (under n) pc 0))
 
+  guard-known : (n : Depth) (pc : ℕ) → (g : Guard) → GuardFits g → Encodable {n = n} (guard blk rc (g .at) (g .«h_ram_ok») pc)
+  unfolding guard Encodable hasEncoder encoders
+  guard-known n pc g z =
+      ((refl, tt), (z .at, ((refl, (refl, tt)), (omega arith, ((refl, tt), (call-known (under n) (g .«h_ram_ok») (z .h-ram-ok), (tt, exitImm-known (under n) pc 0)))))))
+
   even-known : (w : Width) → Known (even w)
   unfolding even hasEncoder encoders
   even-known B8 = tt
@@ -251,7 +257,7 @@ module _ (blk : Block) (rc : RegCache) (addresses : AddressesFit (blk .addresses
       access-known B16 = refl
       access-known B32 = refl
 
--- ---- steps of operations: the test of the limit stands before them all
+-- ---- steps of operations: the test of the limit and the guard stand before them all
 abbrev pub StepKnown : Step → Type 0
 StepKnown (Step.ldReg t r) = Unit {0}
 StepKnown (Step.stReg t r) = Unit {0}
@@ -267,6 +273,7 @@ StepKnown (Step.chain pc count) = Unit {0}
 StepKnown (Step.fork k pc target count) = k < 15
 StepKnown (Step.ind t count brk) = Unit {0}
 StepKnown (Step.limit pc count) = ⊥
+StepKnown (Step.guard at helper pc) = ⊥
 
 abbrev pub AllKnown : List Step → Type 0
 AllKnown [] = Unit {0}
@@ -292,6 +299,7 @@ step-known blk rc z (Step.chain pc count) h = chain-known blk rc z top pc count
 step-known blk rc z (Step.fork k pc target count) h = fork-known blk rc z top k pc target count h
 step-known blk rc z (Step.ind t count brk) h = ind-known blk rc z top t count brk
 step-known blk rc z (Step.limit pc count) h = absurd h
+step-known blk rc z (Step.guard at helper pc) h = absurd h
 
 steps-known : (blk : Block) (rc : RegCache) → AddressesFit (blk .addresses) → (ss : List Step) → AllKnown ss → Encodable (stepsCode blk rc ss)
 unfolding stepsCode Encodable
@@ -500,6 +508,16 @@ pub closing-known : Known closing
 unfolding closing hasEncoder encoders
 closing-known = (refl, (refl, (refl, (refl, (refl, (refl, (refl, tt)))))))
 
-pub block-encodable : (blk : Block) → AddressesFit (blk .addresses) → Encodable (blockCode blk)
+pub block-encodable : (blk : Block) → AddressesFit (blk .addresses) → GuardFits (blk .guard) → Encodable (blockCode blk)
 unfolding blockCode Encodable blockSteps stepsCode stepCode stepCache
-block-encodable blk z = (opening-known, (limit-known blk emptyCache z top (blk .pc0) (blk .n), steps-known blk emptyCache z (opsSteps 0 (blk .pc0) (opsOf blk)) (ops-known 0 (blk .pc0) (opsOf blk))))
+block-encodable blk z g = (opening-known, (limit-known blk emptyCache z top (blk .pc0) (blk .n), by (inFlash (blk .pc0))))
+  where
+    ops : Encodable (stepsCode blk emptyCache (opsSteps 0 (blk .pc0) (opsOf blk)))
+    ops = steps-known blk emptyCache z (opsSteps 0 (blk .pc0) (opsOf blk)) (ops-known 0 (blk .pc0) (opsOf blk))
+
+    guardStep : Step
+    guardStep = Step.guard (blk .guard .at) (blk .guard .«h_ram_ok») (blk .pc0)
+
+    by : (u : Bool) → Encodable (stepsCode blk emptyCache (pick u [] (guardStep ∷ []) ++ opsSteps 0 (blk .pc0) (opsOf blk)))
+    by true = ops
+    by false = (guard-known blk emptyCache z top (blk .pc0) (blk .guard) g, ops)

@@ -37,13 +37,13 @@ module _ (b : Block) (checked : Checked b) (tests : Tests (blockCode b) nowhere 
   unfolding blockLines wholeLines
   lines-have find =
       each-append (Has find) 0 (words (blockCode b)) (lines (blockCode b) nowhere 0) (map plain closing) (omega (arith, lines-length (blockCode b) nowhere 0))
-      (lines-known (blockCode b) nowhere 0 find 0 (block-encodable b (checked .addresses))) (plain-known find (words (blockCode b)) closing closing-known)
+      (lines-known (blockCode b) nowhere 0 find 0 (block-encodable b (checked .addresses) (checked .guard))) (plain-known find (words (blockCode b)) closing closing-known)
 
   lines-reach : Each Reaches 0 (blockLines b)
   unfolding blockLines wholeLines
   lines-reach =
       each-append Reaches 0 (words (blockCode b)) (lines (blockCode b) nowhere 0) (map plain closing) (omega (arith, lines-length (blockCode b) nowhere 0))
-      (lines-near (blockCode b) nowhere 0 0 (block-encodable b (checked .addresses)) near) (plain-near (words (blockCode b)) closing)
+      (lines-near (blockCode b) nowhere 0 0 (block-encodable b (checked .addresses) (checked .guard)) near) (plain-near (words (blockCode b)) closing)
 
   line-fits : (p : ℕ) (l : Line) (rest : List Line) → drop p (blockLines b) ≡ l ∷ rest → Reaches p l → LineFits (blockLines b) p l
   unfolding Reaches

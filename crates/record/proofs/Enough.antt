@@ -30,6 +30,6 @@ enough-from (suc j) k s at b h =
     (or-same (faultAt s at b) at _ _
     (λ e. enough-from j k s (at + 3 + payloadLength s at) (push b (operationOf (payload s at))) h′)))
 
-pub enough : (k : ℕ) (s : List ℕ) → operations (33 + k) s 77 (header s) ≡ operations 33 s 77 (header s)
+pub enough : (k : ℕ) (s : List ℕ) (from : ℕ) → operations (33 + k) s from (header s) ≡ operations 33 s from (header s)
 unfolding header
-enough k s = rw (suc-add 32 k) (enough-from 32 k s 77 (header s) (omega arith))
+enough k s from = rw (suc-add 32 k) (enough-from 32 k s from (header s) (omega arith))

@@ -1,12 +1,13 @@
 -- Document 01's examples, by computation of the definition: the empty block of the listing, and an example of each of reading's faults;
--- and layouts and groups on both sides of their tests.
+-- and layouts, groups and RAM blocks on both sides of their tests.
 use mathlib.Core.Path.{_≡_, refl}
 use mathlib.Core.List.{List, [], _∷_, _++_}
 use Prim.Native.Nat.{ℕ, zero, suc, _/_, _%_}
+use Rattle.block.specs.declared.Guard.{Guard}
 use Rattle.block.specs.Block.{places, upFrom}
 use Rattle.record.specs.Record.{num16, num32, num64, fieldFault, layoutFault, regionFault, memoryFault, startFault, contentsFault}
 use Rattle.record.specs.Record.{operationOf, operationFault, operations, header, refusedOr, layoutField, memoryField, addressesField}
-use Rattle.record.specs.Record.{startField, reading, Answer, Accepted, Refused}
+use Rattle.record.specs.Record.{startField, guardField, inRam, withinRam, reading, Answer, Accepted, Refused}
 
 -- four bytes, lowest first
 abbrev word : ℕ → List ℕ
@@ -51,7 +52,7 @@ nops (suc n) = operation 0 ++ nops n
 unfoldable answer : List ℕ → Answer
 unfolding
     num16 num32 num64 fieldFault layoutFault regionFault memoryFault startFault contentsFault operationOf operationFault operations
-    header refusedOr layoutField memoryField addressesField startField reading places upFrom
+    header refusedOr layoutField memoryField addressesField startField guardField inRam withinRam reading places upFrom
 answer s = reading s .answer
 
 -- an empty block is accepted
@@ -187,3 +188,72 @@ pops :
     × (answer (listing ++ saving 42 4 ++ operation 0) ≡ Refused 9 87)
 unfolding answer
 pops = (refl, refl, refl)
+
+-- ---- RAM blocks: "A record may carry tag 06, 16 bytes, directly behind tag 04"
+
+-- fields 01 to 04 of a block that starts here; RAM is 01000000 to 0100ffff
+abbrev from : ℕ → List ℕ
+from pc0 = fields 0x00010000 0x00100000 pc0
+
+abbrev guard : List ℕ
+guard = (6 ∷ 16 ∷ 0 ∷ word 0x1000) ++ word 1 ++ word 0x2000 ++ word 2
+
+-- the guard that is read, computed
+unfoldable guarded : List ℕ → Guard
+unfolding
+    num16 num32 num64 fieldFault layoutFault regionFault memoryFault startFault contentsFault operationOf operationFault operations
+    header refusedOr layoutField memoryField addressesField startField guardField inRam withinRam reading places upFrom
+guarded s = reading s .block .guard
+
+-- the address of the `RamGuard`, and that of `h_ram_ok`; a flash block has zeros
+guards :
+    (answer (from 0x01000000 ++ guard ++ operation 0) ≡ Accepted)
+    × (guarded (from 0x01000000 ++ guard) ≡ record { at = 0x100001000; «h_ram_ok» = 0x200002000 })
+    × (guarded listing ≡ record { at = 0; «h_ram_ok» = 0 })
+unfolding answer guarded
+guards = (refl, refl, refl)
+
+-- RAM's last byte, and the byte behind it; the byte before RAM
+starts :
+    (answer (from 0x0100ffff ++ guard) ≡ Accepted)
+    × (answer (from 0x01010000 ++ guard) ≡ Refused 7 70)
+    × (answer (from 0x00ffffff ++ guard) ≡ Refused 7 70)
+unfolding answer
+starts = (refl, refl, refl)
+
+-- a RAM start: an operation is next, nothing is next; a flash start: tag 06 is next, whole or alone
+fault-16 :
+    (answer (from 0x01000000 ++ operation 0) ≡ Refused 16 70)
+    × (answer (from 0x01000000) ≡ Refused 16 70)
+    × (answer (listing ++ guard) ≡ Refused 16 70)
+    × (answer (listing ++ (6 ∷ [])) ≡ Refused 16 70)
+unfolding answer
+fault-16 = (refl, refl, refl, refl)
+
+-- a RAM start, tag 06 is next: alone, and with 15 bytes
+guard-faults :
+    (answer (from 0x01000000 ++ (6 ∷ [])) ≡ Refused 1 77)
+    × (answer (from 0x01000000 ++ (6 ∷ 15 ∷ 0 ∷ zeros 15)) ≡ Refused 2 77)
+unfolding answer
+guard-faults = (refl, refl)
+
+-- "A start in flash's range is a flash start even if it is inside RAM too": RAM is 01000000 to 02ffffff
+both :
+    (answer (fields 0x02000000 0x00100000 0x02000000 ++ operation 0) ≡ Accepted)
+    × (answer (fields 0x02000000 0x00100000 0x02000000 ++ guard) ≡ Refused 16 70)
+    × (answer (fields 0x02000000 0x00100000 0x01ffffff ++ guard) ≡ Accepted)
+unfolding answer
+both = (refl, refl, refl)
+
+-- two operations end at RAM's end, a third reaches past it; the second does so by a byte
+fault-17 :
+    (answer (from 0x0100fffc ++ guard ++ nops 2) ≡ Accepted)
+    × (answer (from 0x0100fffc ++ guard ++ nops 3) ≡ Refused 17 108)
+    × (answer (from 0x0100fffd ++ guard ++ nops 3) ≡ Refused 17 102)
+unfolding answer
+fault-17 = (refl, refl, refl)
+
+-- "after all fields": kind 45 behind an operation that reaches past RAM's end
+before-17 : answer (from 0x0100ffff ++ guard ++ operation 0 ++ operation 45) ≡ Refused 3 102
+unfolding answer
+before-17 = refl

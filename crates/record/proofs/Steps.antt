@@ -18,7 +18,7 @@ use Rattle.operation.specs.declared.Operation.the-variants.{Fault, Good}
 use Rattle.operation.specs.Judged.{judged}
 use Rattle.operation.proofs.Contents.{Contents, contents-of, jumps}
 use Rattle.record.specs.Record.{_gives_, byteAt, payloadLength, payload, cut, operationOf, nop, lastJumps, operationFault}
-use Rattle.record.specs.Record.{Answer, Refused, Reading, accepted, empty, refused, refusedOr, push, operations}
+use Rattle.record.specs.Record.{Answer, Accepted, Refused, Reading, accepted, empty, refused, refusedOr, push, operations}
 use Rattle.fields.proofs.Laws.{Whole, not-cut, payload-head}
 
 -- ---- an operation without a fault
@@ -56,6 +56,12 @@ pub pass : {f : ℕ} (g place : ℕ) (next : Reading) → f ≡ g → f ≡ 0 �
 unfolding refusedOr
 pass {f} g place next e z = let y : g ≡ 0 = sym e ∙ z in rw y
 
+-- a reading that is accepted was not refused at this place
+pub not-refused : (f place : ℕ) (next : Reading) → refusedOr f place next .answer ≡ Accepted → (f ≡ 0) × (refusedOr f place next ≡ next)
+unfolding refusedOr
+not-refused zero place next e = (refl, refl)
+not-refused (suc f) place next e = let z : _≡_ {A = ℕ} 0 1 = cc in absurd (omega arith)
+
 pub last-jumps : (n : ℕ) (ops : List BOp) (o : BOp) → n < length ops → lastJumps (n + 1) (set ops n o) ≡ mayJump (o .fast)
 last-jumps n ops o h = rw (add-one, getD-set-same ops n o nop h)
 
@@ -65,7 +71,8 @@ faultAt s at b = operationFault (b .memory) s at (b .n) (lastJumps (b .n) (b .op
 
 -- a block with so many operations
 abbrev pub counted : Block → ℕ → Block
-counted b n = record { layout = b .layout; memory = b .memory; addresses = b .addresses; pc0 = b .pc0; ops = b .ops; n = n }
+counted b n =
+    record { layout = b .layout; memory = b .memory; addresses = b .addresses; pc0 = b .pc0; guard = b .guard; ops = b .ops; n = n }
 
 ends : (k : ℕ) (s : List ℕ) (at : ℕ) (b : Block) → length s ≤ at → accepted b ≡ operations k s at b
 unfolding operations

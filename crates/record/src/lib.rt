@@ -1,31 +1,40 @@
 // The reader of block records: a checked block, or the number and place of the first fault.
 ghost use mathlib.Core.Path.{_≡_};
+ghost use mathlib.Core.Bool.{false};
 ghost use Prim.Native.Nat.{_+_, _≤_, _<_};
 ghost use lib.ListN.{length};
+ghost use Rattle.block.specs.Block.{inFlash};
 ghost use Rattle.block.specs.Checked.{Checked};
-ghost use Rattle.record.specs.Record.{Accepted, empty, fieldFault, refused as refusedAt, header as headerOf};
-ghost use Rattle.record.specs.Record.{operations as operationsOf, reading, Told};
+ghost use Rattle.record.specs.Record.{Accepted, empty, refused as refusedAt, header as headerOf, operations as operationsOf};
+ghost use Rattle.record.specs.Record.{startOf, guardField, reading, Told};
+ghost use Rattle.record.specs.Parts.{Faultless};
 
 mod operations;
+mod ram;
 
 use crate::operations::read_operation;
+use crate::ram::within_ram;
 use block::Addresses;
 use block::BOp;
 use block::Block;
 use block::Fast;
+use block::Guard;
 use block::Layout;
 use block::Memory;
+use block::in_flash;
 use block::jumps;
 use fields::addresses_field;
 use fields::addresses_of;
+use fields::guard_at;
+use fields::guard_field;
 use fields::layout_field;
 use fields::layout_of;
 use fields::memory_field;
 use fields::memory_of;
 use fields::start_field;
+use fields::start_of;
 use operands::byte;
 use operands::get16;
-use operands::get32;
 use operation::Operation;
 
 // What reading finds: a checked block, or a fault by number and place.
@@ -70,6 +79,7 @@ fn no_block() -> Block
             table: 0,
         },
         pc0: 0,
+        guard: Guard { at: 0, h_ram_ok: 0 },
         ops: [nop; 32],
         n: 0,
     }
@@ -84,9 +94,9 @@ fn refused(number: u32, place: usize) -> Reading
     }
 }
 
-// Fields 01 to 04, and no operation.
+// Fields 01 to 04, of a RAM block 06 too, and no operation.
 fn header(s: &[u8]) -> Block
-    requires { ⌜ (fieldFault (now s) 0 1 20 ≡ 0) × (fieldFault (now s) 23 2 17 ≡ 0) × (fieldFault (now s) 43 3 24 ≡ 0) × (fieldFault (now s) 70 4 4 ≡ 0) ⌝ }
+    requires { ⌜ Faultless (now s) × (guardField (now s) ≡ 0) ⌝ }
     ensures { λ r. ⌜ r ≡ headerOf (now (s .entry)) ⌝ }
 {
     let none = no_block();
@@ -95,23 +105,24 @@ fn header(s: &[u8]) -> Block
         layout: layout_of(&s[3..23]),
         memory: memory_of(&s[26..43]),
         addresses: addresses_of(&s[46..70]),
-        pc0: get32(&s[73..77], 0),
+        pc0: start_of(s),
+        guard: guard_at(s),
         ops,
         n: 0,
     }
 }
 
-// The operations behind field 04, up to the record's end.
-fn read_operations(s: &[u8], b: Block) -> Reading
-    requires { ⌜ (77 ≤ length (now s)) × (b .n ≡ 0) × (length (b .ops) ≡ 32) ⌝ }
-    ensures { λ r. ⌜ r ≡ operationsOf 33 (now (s .entry)) 77 b ⌝ }
+// The operations from a byte on, up to the record's end.
+fn read_operations(s: &[u8], from: usize, b: Block) -> Reading
+    requires { ⌜ (from ≤ length (now s)) × (b .n ≡ 0) × (length (b .ops) ≡ 32) ⌝ }
+    ensures { λ r. ⌜ r ≡ operationsOf 33 (now (s .entry)) from b ⌝ }
 {
     let m = b.memory;
     let mut answer = Answer::Accepted;
     let mut block = b;
     let mut n: u32 = 0;
     let mut jumped = false;
-    let mut at: usize = 77;
+    let mut at = from;
     while at < s.len() {
         let o = read_operation(m, s, at, n, jumped);
         match o {
@@ -131,6 +142,18 @@ fn read_operations(s: &[u8], b: Block) -> Reading
     }
     block.n = n;
     Reading { answer, block }
+}
+
+// What follows field 04 of a RAM block: its guard, and its operations up to RAM's end.
+fn read_ram(s: &[u8]) -> Reading
+    requires { ⌜ Faultless (now s) × (inFlash (startOf (now s)) ≡ false) ⌝ }
+    ensures { λ r. ⌜ r ≡ reading (now (s .entry)) ⌝ }
+{
+    let guard = guard_field(s);
+    if guard != 0 {
+        return refused(guard, 77);
+    }
+    within_ram(s, read_operations(s, 96, header(s)))
 }
 
 // The whole reader: any bytes, of any length.
@@ -155,5 +178,8 @@ pub fn read(s: &[u8]) -> Reading
     if start != 0 {
         return refused(start, 70);
     }
-    read_operations(s, header(s))
+    if in_flash(start_of(s)) {
+        return read_operations(s, 77, header(s));
+    }
+    read_ram(s)
 }

@@ -84,8 +84,8 @@ module _ {b : Block} {h : Helpers} {s0 : State} (B : Body b h s0) where
     pub apart-now : Apart (s .mem)
     apart-now = apart-alike (w .others .alike) (B .apart)
 
-    pub count-now : length (s .mem) ≡ 8
-    count-now = w .others .alike .count ∙ B .regions
+    pub count-now : 8 ≤ length (s .mem)
+    count-now = omega (arith, w .others .alike .count, B .regions)
 
     pub size-now : (k : ℕ) → sizeOf (s .mem) k ≡ sizeOf (s0 .mem) k
     size-now k = w .others .alike .size k
@@ -97,7 +97,7 @@ module _ {b : Block} {h : Helpers} {s0 : State} (B : Body b h s0) where
       pub ldr-now : o % 4 ≡ 0 → o + 4 ≤ sizeOf (s0 .mem) k → exec h (ldr rt r o) s ≡ fall (bare (withX rt (readLE (bytesOf (s .mem) k) o 4) s))
       ldr-now m t =
           let z : R X s r ≡ baseOf (s .mem) k = start-now r k q e in
-          let n : length (s .mem) ≡ 8 = count-now in
+          let n : 8 ≤ length (s .mem) = count-now in
           let y : sizeOf (s .mem) k ≡ sizeOf (s0 .mem) k = size-now k in
           subst (λ p. exec h (ldr rt r o) s ≡ fall (bare (withX rt (readLE (bytesOf (s .mem) k) p 4) s))) (omega arith)
           (ldr-at h s apart-now r k 0 o (omega arith) (cls-lt r q (omega arith)) (omega arith) rt m (omega arith))
@@ -105,7 +105,7 @@ module _ {b : Block} {h : Helpers} {s0 : State} (B : Body b h s0) where
       pub str-now : writable k ≡ true → o % 4 ≡ 0 → o + 4 ≤ sizeOf (s0 .mem) k → exec h (str rt r o) s ≡ fall (bare (wrote k o 4 (R X s rt) s))
       str-now v m t =
           let z : R X s r ≡ baseOf (s .mem) k = start-now r k q e in
-          let n : length (s .mem) ≡ 8 = count-now in
+          let n : 8 ≤ length (s .mem) = count-now in
           let y : sizeOf (s .mem) k ≡ sizeOf (s0 .mem) k = size-now k in
           subst (λ p. exec h (str rt r o) s ≡ fall (bare (wrote k p 4 (R X s rt) s))) (omega arith)
           (str-at h s apart-now r k 0 o (omega arith) (cls-lt r q (omega arith)) (omega arith) rt v m (omega arith))
@@ -113,7 +113,7 @@ module _ {b : Block} {h : Helpers} {s0 : State} (B : Body b h s0) where
       pub strX-now : writable k ≡ true → o % 8 ≡ 0 → o + 8 ≤ sizeOf (s0 .mem) k → exec h (strX rt r o) s ≡ fall (bare (wrote k o 8 (R X s rt) s))
       strX-now v m t =
           let z : R X s r ≡ baseOf (s .mem) k = start-now r k q e in
-          let n : length (s .mem) ≡ 8 = count-now in
+          let n : 8 ≤ length (s .mem) = count-now in
           let y : sizeOf (s .mem) k ≡ sizeOf (s0 .mem) k = size-now k in
           subst (λ p. exec h (strX rt r o) s ≡ fall (bare (wrote k p 8 (R X s rt) s))) (omega arith)
           (strX-at h s apart-now r k 0 o (omega arith) (cls-lt r q (omega arith)) (omega arith) rt v m (omega arith))

@@ -17,13 +17,14 @@ use Rattle.block.specs.declared.Layout.{Layout}
 use Rattle.block.specs.declared.Block.{Block}
 use Rattle.block.specs.Checked.{LayoutFits, Checked}
 use Rattle.block.specs.Checked.{Apart as Separate}
-use Rattle.machine.specs.State.{Region, State, withMem, processor, context, code, stack, ram, xip, map, table}
+use Rattle.machine.specs.State.{Region, State, withMem, processor, context, code, stack, ram, xip, map, table, guards}
 use Rattle.machine.specs.Memory.{readLE, writeLE, bytesOf, sizeOf, withBytes}
 use Rattle.machine.specs.Execute.{Helpers}
 use Rattle.machine.proofs.Bytes.{length-writeLE, getD-writeLE-below, getD-writeLE-above, read-below, read-above, read-same}
-use Rattle.machine.proofs.Regions.{alike-trans, alike-with, bytes-same, bytes-other}
+use Rattle.machine.proofs.Regions.{alike-trans, alike-with, bytes-same, bytes-other, drop-with}
 use Rattle.card.specs.Card.{Card, setSp, setRets, setHold}
 use Rattle.lowering.specs.Cache.{offReg}
+use Rattle.demand.specs.Premises.{ramGuards}
 use Rattle.demand.specs.Outside.{allArm}
 use Rattle.relation.specs.Relation.{Fields, Context, Others, Small, Kept, Cached, Home, Body}
 use Rattle.registers.proofs.Access.{wrote, count-now, size-now}
@@ -111,11 +112,13 @@ pub record Same (c c′ : Card) : Type 0 where
   pub ram : c′ .ram ≡ c .ram
   pub map : c′ .map ≡ c .map
   pub brk : c′ .brk ≡ c .brk
+  pub version : c′ .version ≡ c .version
+  pub guards : c′ .guards ≡ c .guards
   pub requests : c′ .requests ≡ c .requests
   pub outcomes : c′ .outcomes ≡ c .outcomes
 
-others-with : {c c′ : Card} {m m′ : List Region} → Same c c′ → Others c m m′ → (k : ℕ) (l : List ℕ) → length l ≡ sizeOf m′ k → code ≢ k → stack ≢ k → ram ≢ k → xip ≢ k → map ≢ k → table ≢ k → Others c′ m (withBytes k l m′)
-others-with {m′ = m′} a w k l e p q r t u v = record {
+others-with : {c c′ : Card} {m m′ : List Region} → Same c c′ → Others c m m′ → (k : ℕ) (l : List ℕ) → length l ≡ sizeOf m′ k → code ≢ k → stack ≢ k → ram ≢ k → xip ≢ k → map ≢ k → table ≢ k → k < guards → Others c′ m (withBytes k l m′)
+others-with {m′ = m′} a w k l e p q r t u v z = record {
   alike = alike-trans (w .alike) (alike-with k l m′ e);
   code-is = bytes-other k l m′ code p ∙ w .code-is;
   stack-is = bytes-other k l m′ stack q ∙ w .stack-is;
@@ -123,6 +126,8 @@ others-with {m′ = m′} a w k l e p q r t u v = record {
   xip-is = bytes-other k l m′ xip t ∙ w .xip-is;
   map-is = bytes-other k l m′ map u ∙ w .map-is ∙ sym (a .map);
   table-is = bytes-other k l m′ table v ∙ w .table-is;
+  guards-are = ap ramGuards (drop-with guards k l m′ z) ∙ w .guards-are ∙ sym (a .guards);
+  guards-is = λ j o y n. ap (λ b. getD b o 0) (bytes-other k l m′ j (omega arith)) ∙ w .guards-is j o y n;
 }
 
 module _ {b : Block} {h : Helpers} {s0 : State} (B : Body b h s0) where
@@ -139,8 +144,8 @@ module _ {b : Block} {h : Helpers} {s0 : State} (B : Body b h s0) where
       fixed = record { registers = w .fixed .registers; keeps = w .fixed .keeps; sp = w .fixed .sp };
       fields = subst (λ y. Fields (b .layout) c′ pc′ (bytesOf (s0 .mem) processor) y) (sym (bytes-same processor l (s .mem) here-processor)) f;
       ctx = subst (λ y. Context c′ slot (bytesOf (s0 .mem) context) y) (sym (bytes-other processor l (s .mem) context (omega arith)))
-          (record { brk-is = w .ctx .brk-is ∙ sym (a .brk); slot-is = w .ctx .slot-is; outside = w .ctx .outside });
-      others = others-with a (w .others) processor l e (omega arith) (omega arith) (omega arith) (omega arith) (omega arith) (omega arith);
+          (record { brk-is = w .ctx .brk-is ∙ sym (a .brk); slot-is = w .ctx .slot-is; version-is = w .ctx .version-is ∙ sym (a .version); outside = w .ctx .outside });
+      others = others-with a (w .others) processor l e (omega arith) (omega arith) (omega arith) (omega arith) (omega arith) (omega arith) (omega arith);
       io = record { outcomes-are = a .outcomes ∙ w .io .outcomes-are; requests-are = w .io .requests-are ∙ ap allArm (sym (a .requests)); goods = w .io .goods };
       small = z;
     }
@@ -150,39 +155,39 @@ module _ {b : Block} {h : Helpers} {s0 : State} (B : Body b h s0) where
       fixed = record { registers = w .fixed .registers; keeps = w .fixed .keeps; sp = w .fixed .sp };
       fields = subst (λ y. Fields (b .layout) c pc (bytesOf (s0 .mem) processor) y) (sym (bytes-other context l (s .mem) processor (omega arith))) (w .fields);
       ctx = subst (λ y. Context c slot′ (bytesOf (s0 .mem) context) y) (sym (bytes-same context l (s .mem) here-context)) f;
-      others = others-with (same c) (w .others) context l e (omega arith) (omega arith) (omega arith) (omega arith) (omega arith) (omega arith);
+      others = others-with (same c) (w .others) context l e (omega arith) (omega arith) (omega arith) (omega arith) (omega arith) (omega arith) (omega arith);
       io = w .io;
       small = w .small;
     }
       where
         same : (c : Card) → Same c c
-        same c = record { ram = refl; map = refl; brk = refl; requests = refl; outcomes = refl }
+        same c = record { ram = refl; map = refl; brk = refl; version = refl; guards = refl; requests = refl; outcomes = refl }
 
     -- ---- each of the places
     module _ (C : Checked b) where
       pub kept-reg : (r v : ℕ) → r < 16 → Kept b s0 c pc slot (wrote processor (offReg (b .layout) r) 4 v s)
       kept-reg r v l =
           kept-processor c pc (writeLE (bytesOf (s .mem) processor) (offReg (b .layout) r) 4 v) (length-writeLE (bytesOf (s .mem) processor) (offReg (b .layout) r) 4 v)
-          (record { ram = refl; map = refl; brk = refl; requests = refl; outcomes = refl }) (w .small) (fields-reg (C .layout) (w .fields) r v l)
+          (record { ram = refl; map = refl; brk = refl; version = refl; guards = refl; requests = refl; outcomes = refl }) (w .small) (fields-reg (C .layout) (w .fields) r v l)
 
       pub kept-sp : (v u : ℕ) → v % 2 ^ 32 ≡ u → Kept b s0 (setSp u c) pc slot (wrote processor (b .layout .sp) 4 v s)
       kept-sp v u e =
           kept-processor (setSp u c) pc (writeLE (bytesOf (s .mem) processor) (b .layout .sp) 4 v) (length-writeLE (bytesOf (s .mem) processor) (b .layout .sp) 4 v)
-          (record { ram = refl; map = refl; brk = refl; requests = refl; outcomes = refl })
+          (record { ram = refl; map = refl; brk = refl; version = refl; guards = refl; requests = refl; outcomes = refl })
           (record { count = w .small .count; regs-lt = w .small .regs-lt; sp-lt = omega arith; rets-lt = w .small .rets-lt; hold-lt = w .small .hold-lt; brk-lt = w .small .brk-lt; pc-lt = w .small .pc-lt })
           (fields-sp (C .layout) (w .fields) v u e (omega (arith, size-now B w processor, B .sp-in)))
 
       pub kept-rets : (v u : ℕ) → v % 2 ^ 32 ≡ u → Kept b s0 (setRets u c) pc slot (wrote processor (b .layout .rets) 4 v s)
       kept-rets v u e =
           kept-processor (setRets u c) pc (writeLE (bytesOf (s .mem) processor) (b .layout .rets) 4 v) (length-writeLE (bytesOf (s .mem) processor) (b .layout .rets) 4 v)
-          (record { ram = refl; map = refl; brk = refl; requests = refl; outcomes = refl })
+          (record { ram = refl; map = refl; brk = refl; version = refl; guards = refl; requests = refl; outcomes = refl })
           (record { count = w .small .count; regs-lt = w .small .regs-lt; sp-lt = w .small .sp-lt; rets-lt = omega arith; hold-lt = w .small .hold-lt; brk-lt = w .small .brk-lt; pc-lt = w .small .pc-lt })
           (fields-rets (C .layout) (w .fields) v u e (omega (arith, size-now B w processor, B .rets-in)))
 
       pub kept-hold : (v u : ℕ) → v % 2 ^ 32 ≡ u → Kept b s0 (setHold u c) pc slot (wrote processor (b .layout .hold) 4 v s)
       kept-hold v u e =
           kept-processor (setHold u c) pc (writeLE (bytesOf (s .mem) processor) (b .layout .hold) 4 v) (length-writeLE (bytesOf (s .mem) processor) (b .layout .hold) 4 v)
-          (record { ram = refl; map = refl; brk = refl; requests = refl; outcomes = refl })
+          (record { ram = refl; map = refl; brk = refl; version = refl; guards = refl; requests = refl; outcomes = refl })
           (record { count = w .small .count; regs-lt = w .small .regs-lt; sp-lt = w .small .sp-lt; rets-lt = w .small .rets-lt; hold-lt = omega arith; brk-lt = w .small .brk-lt; pc-lt = w .small .pc-lt })
           (fields-hold (C .layout) (w .fields) v u e (omega (arith, size-now B w processor, B .hold-in)))
 
@@ -190,8 +195,12 @@ module _ {b : Block} {h : Helpers} {s0 : State} (B : Body b h s0) where
       pub kept-pc : (v u : ℕ) → v % 2 ^ 32 ≡ u → Kept b s0 c u slot (wrote processor (b .layout .pc) 4 v s)
       kept-pc v u e =
           kept-processor c u (writeLE (bytesOf (s .mem) processor) (b .layout .pc) 4 v) (length-writeLE (bytesOf (s .mem) processor) (b .layout .pc) 4 v)
-          (record { ram = refl; map = refl; brk = refl; requests = refl; outcomes = refl }) (w .small)
+          (record { ram = refl; map = refl; brk = refl; version = refl; guards = refl; requests = refl; outcomes = refl }) (w .small)
           (fields-pc (C .layout) (w .fields) v u e (omega (arith, size-now B w processor, B .pc-in)))
+
+    off-slot : (o : ℕ) → (o < 32) ⊎ (48 ≤ o) → (o < 32) ⊎ (32 + 8 ≤ o)
+    off-slot o (inl q) = inl q
+    off-slot o (inr q) = inr (omega arith)
 
     pub kept-slot : (v u : ℕ) → v % 2 ^ 64 ≡ u → Kept b s0 c pc u (wrote context 32 8 v s)
     kept-slot v u e =
@@ -199,7 +208,8 @@ module _ {b : Block} {h : Helpers} {s0 : State} (B : Body b h s0) where
         (record {
           brk-is = read-apart (bytesOf (s .mem) context) 32 8 v 24 4 (inr (omega arith)) ∙ w .ctx .brk-is;
           slot-is = read-same (bytesOf (s .mem) context) 32 8 v (omega (arith, size-now B w context, B .context-in)) ∙ e;
-          outside = λ o p q. getD-apart (bytesOf (s .mem) context) 32 8 v o q ∙ w .ctx .outside o p q;
+          version-is = read-apart (bytesOf (s .mem) context) 32 8 v 40 8 (inl (omega arith)) ∙ w .ctx .version-is;
+          outside = λ o p q. getD-apart (bytesOf (s .mem) context) 32 8 v o (off-slot o q) ∙ w .ctx .outside o p q;
         })
 
 -- ---- the registers' homes

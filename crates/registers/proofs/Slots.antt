@@ -153,8 +153,8 @@ pub kept-setReg : {b : Block} {s0 : State} {c : Card} {pc slot : ℕ} {s : State
 kept-setReg {c = c} w r v m l = record {
   fixed = w .fixed;
   fields = record { sp-is = w .fields .sp-is; rets-is = w .fields .rets-is; hold-is = w .fields .hold-is; pc-is = w .fields .pc-is; outside = w .fields .outside };
-  ctx = record { brk-is = w .ctx .brk-is; slot-is = w .ctx .slot-is; outside = w .ctx .outside };
-  others = record { alike = w .others .alike; code-is = w .others .code-is; stack-is = w .others .stack-is; ram-is = w .others .ram-is; xip-is = w .others .xip-is; map-is = w .others .map-is; table-is = w .others .table-is };
+  ctx = record { brk-is = w .ctx .brk-is; slot-is = w .ctx .slot-is; version-is = w .ctx .version-is; outside = w .ctx .outside };
+  others = record { alike = w .others .alike; code-is = w .others .code-is; stack-is = w .others .stack-is; ram-is = w .others .ram-is; xip-is = w .others .xip-is; map-is = w .others .map-is; table-is = w .others .table-is; guards-are = w .others .guards-are; guards-is = w .others .guards-is };
   io = record { outcomes-are = w .io .outcomes-are; requests-are = w .io .requests-are; goods = w .io .goods };
   small = record {
     count = length-set (c .regs) r v ∙ w .small .count;

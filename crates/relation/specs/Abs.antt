@@ -8,8 +8,8 @@ use lib.Dec.{eqb, ltb}
 use Rattle.block.specs.declared.Block.{Block}
 use Rattle.machine.specs.Bits.{Nzcv, ConditionHolds}
 use Rattle.card.specs.Word.{plus}
-use Rattle.card.specs.Card.{Card, reg, setReg, setSp, setRets, setHold, arrive}
-use Rattle.card.specs.Memory.{Access, got, unmet, load, store}
+use Rattle.card.specs.Card.{Card, reg, setReg, setSp, setRets, setHold, arrive, guard, versionAt}
+use Rattle.card.specs.Memory.{Access, got, unmet, ask, load, store}
 use Rattle.card.specs.Step.{Way, exits, chains, looksUp}
 use Rattle.lowering.specs.Steps.{Field, sp, rets, Step}
 use Rattle.relation.specs.Data.{Data, dataOf}
@@ -127,6 +127,11 @@ mstep b flash limit (Step.ind t count brk) a =
     known (a .t t) (λ p. cond (brk && not (eqb (a .c .brk) 0)) (off exits (arrive p count (a .c))) (off looksUp (arrive p count (a .c))))
 mstep b flash limit (Step.limit pc count) a =
     cond (ltb limit (a .c .done + count)) (off exits (arrive pc 0 (a .c))) (go (record { c = a .c; t = upd (a .t) 9 none; f = none }))
+mstep b flash limit (Step.guard at helper pc) a =
+    cond (eqb (a .c .version) (versionAt (a .c .guards) at))
+    (go (record { c = a .c; t = kill (a .t); f = none }))
+    (ifGot (ask (guard at) (a .c .outcomes) (a .c))
+    (λ v c. cond (eqb v 0) (off exits (arrive pc 0 c)) (go (record { c = c; t = kill (a .t); f = none }))))
 
 abbrev pub andThen : Then → (Abs → Then) → Then
 andThen (go a) f = f a

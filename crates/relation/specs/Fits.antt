@@ -66,6 +66,7 @@ StepFits (Step.chain pc count) = (pc < 2 ^ 32) × (count < 4096)
 StepFits (Step.fork k pc target count) = (pc < 2 ^ 32) × (target < 2 ^ 32) × (count < 4096)
 StepFits (Step.ind t count brk) = (cls t ≡ 0) × (count < 4096)
 StepFits (Step.limit pc count) = (pc < 2 ^ 32) × (count < 4096)
+StepFits (Step.guard at helper pc) = pc < 2 ^ 32
 
 abbrev pub AllFit : List Step → Type 0
 AllFit [] = Unit {0}

@@ -36,7 +36,7 @@ ofEffect (refused k) = stop fails
 
 -- a call is to a helper, any other would go on elsewhere; and register 0 is the context
 abbrev pub helper : Helpers → ℕ → Bool
-helper h a = eqb a (h .h-read) || eqb a (h .h-write)
+helper h a = eqb a (h .h-read) || (eqb a (h .h-write) || eqb a (h .h-ram-ok))
 
 abbrev pub inContext : State → Bool
 inContext s = eqb (R X s 0) (baseOf (s .mem) context)

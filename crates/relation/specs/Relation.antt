@@ -6,14 +6,15 @@ use mathlib.Core.Bool.{Bool, true, false}
 use mathlib.Core.Option.{Option, none, some}
 use mathlib.Core.List.{List, [], _∷_}
 use Prim.Native.Nat.{ℕ, _+_, _-_, _*_, _/_, _%_, _^_, _≤_, _<_}
-use lib.ListN.{length, getD}
+use lib.ListN.{length, getD, drop}
 use Rattle.arm.specs.declared.Size.the-variants.{W, X}
 use Rattle.block.specs.declared.Layout.{Layout}
 use Rattle.block.specs.declared.Block.{Block}
+use Rattle.block.specs.Block.{inFlash}
 use Rattle.code.specs.Tree.{Depth, Code}
 use Rattle.code.specs.Machine.{Machine, Out, fell, went, left, ended, does}
 use Rattle.machine.specs.Bits.{Nzcv}
-use Rattle.machine.specs.State.{Region, State, Outcome, Request, code, stack, processor, context, ram, xip, map, table, R}
+use Rattle.machine.specs.State.{Region, State, Outcome, Request, code, stack, processor, context, ram, xip, map, table, guards, R}
 use Rattle.machine.specs.Memory.{readLE, bytesOf, baseOf, sizeOf, Apart}
 use Rattle.machine.specs.Execute.{Helpers}
 use Rattle.machine.proofs.Regions.{Alike}
@@ -23,6 +24,7 @@ use Rattle.lowering.specs.declared.RegCache.{RegCache}
 use Rattle.lowering.specs.Cache.{host, offReg}
 use Rattle.lowering.specs.Compile.{starts}
 use Rattle.demand.specs.Outside.{allArm, allCard}
+use Rattle.demand.specs.Premises.{ramGuards, Guarded}
 use Rattle.demand.specs.Claim.{Outside, guestAt, bodyAt, slotOf}
 use Rattle.relation.specs.Lines.{Stop, returns, jumps, fails, arm}
 use Rattle.relation.specs.Abs.{Abs, Then, go, off, void}
@@ -39,7 +41,7 @@ cls k =
 -- ---- the premises at the body that do not change in a run
 pub record Body (b : Block) (h : Helpers) (s : State) : Type 0 where
   pub registers : length (s .x) ≡ 31
-  pub regions : length (s .mem) ≡ 8
+  pub regions : guards ≤ length (s .mem)
   pub apart : Apart (s .mem)
   pub x19 : R X s 19 ≡ baseOf (s .mem) processor
   pub x20 : R X s 20 ≡ baseOf (s .mem) context
@@ -51,7 +53,7 @@ pub record Body (b : Block) (h : Helpers) (s : State) : Type 0 where
   pub rets-in : b .layout .rets + 4 ≤ sizeOf (s .mem) processor
   pub pc-in : b .layout .pc + 4 ≤ sizeOf (s .mem) processor
   pub hold-in : b .layout .hold + 4 ≤ sizeOf (s .mem) processor
-  pub context-in : 40 ≤ sizeOf (s .mem) context
+  pub context-in : 48 ≤ sizeOf (s .mem) context
   pub ram-size : sizeOf (s .mem) ram ≡ b .memory .«ram_len»
   pub xip-size : sizeOf (s .mem) xip ≡ b .memory .«xip_len»
   pub map-in : b .memory .map ≡ true → (o : ℕ) → o < b .memory .«ram_len» → o / 4 < sizeOf (s .mem) map
@@ -60,6 +62,8 @@ pub record Body (b : Block) (h : Helpers) (s : State) : Type 0 where
   pub reads : h .h-read ≡ b .addresses .«h_read»
   pub writes : h .h-write ≡ b .addresses .«h_write»
   pub differ : h .h-write ≢ h .h-read
+  pub guard-sizes : (k : ℕ) → guards ≤ k → k < length (s .mem) → 8 ≤ sizeOf (s .mem) k
+  pub guarded : inFlash (b .pc0) ≡ false → Guarded (b .guard) h s
   pub sp-at : baseOf (s .mem) stack ≤ s .sp
   pub frame-in : s .sp + 96 ≤ baseOf (s .mem) stack + sizeOf (s .mem) stack
 
@@ -69,6 +73,8 @@ pub record Good (s0 : State) (o : Outcome) : Type 0 where
   pub brk-lt : o .brk < 2 ^ 32
   pub ram-len : length (o .ram) ≡ sizeOf (s0 .mem) ram
   pub map-len : length (o .map) ≡ sizeOf (s0 .mem) map
+  pub version-lt : o .version < 2 ^ 64
+  pub guards-lt : (k : ℕ) → getD (o .guards) k 0 < 2 ^ 64
 
 abbrev pub Goods : State → List Outcome → Type 0
 Goods s0 [] = Unit {0}
@@ -98,11 +104,12 @@ pub record Fields (lay : Layout) (c : Card) (pc : ℕ) (start now : List ℕ) : 
   pub pc-is : readLE now (lay .pc) 4 ≡ pc
   pub outside : (o : ℕ) → Outside lay o → getD now o 0 ≡ getD start o 0
 
--- the context: the break word at byte 24, the slot at byte 32
+-- the context: the break word at byte 24, the slot at byte 32, the version at byte 40
 pub record Context (c : Card) (slot : ℕ) (start now : List ℕ) : Type 0 where
   pub brk-is : readLE now 24 4 ≡ c .brk
   pub slot-is : readLE now 32 8 ≡ slot
-  pub outside : (o : ℕ) → (o < 24) ⊎ (28 ≤ o) → (o < 32) ⊎ (40 ≤ o) → getD now o 0 ≡ getD start o 0
+  pub version-is : readLE now 40 8 ≡ c .version
+  pub outside : (o : ℕ) → (o < 24) ⊎ (28 ≤ o) → (o < 32) ⊎ (48 ≤ o) → getD now o 0 ≡ getD start o 0
 
 -- the regions that are not the processor record and not the context
 pub record Others (c : Card) (m m′ : List Region) : Type 0 where
@@ -113,6 +120,8 @@ pub record Others (c : Card) (m m′ : List Region) : Type 0 where
   pub xip-is : bytesOf m′ xip ≡ bytesOf m xip
   pub map-is : bytesOf m′ map ≡ c .map
   pub table-is : bytesOf m′ table ≡ bytesOf m table
+  pub guards-are : ramGuards (drop guards m′) ≡ c .guards
+  pub guards-is : (k o : ℕ) → guards ≤ k → 8 ≤ o → getD (bytesOf m′ k) o 0 ≡ getD (bytesOf m k) o 0
 
 pub record Io (s0 : State) (c : Card) (outcomes : List Outcome) (requests : List Request) : Type 0 where
   pub outcomes-are : c .outcomes ≡ allCard outcomes

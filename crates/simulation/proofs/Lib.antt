@@ -1,5 +1,6 @@
 pub mod Sites
 pub mod Steps
+pub mod Guard
 pub mod Operations
 pub mod Demand
 pub mod Records

@@ -3,7 +3,7 @@
 --     body-leaves    the block's code behind the opening words
 -- Assumes nothing.
 use mathlib.Core.Path.{_≡_, refl, sym, ap, subst, _∙_}
-use mathlib.Core.Bool.{Bool, true, false, cond}
+use mathlib.Core.Bool.{Bool, true, false, cond, _||_}
 use mathlib.Core.Option.{none}
 use mathlib.Core.List.{List, [], _∷_, _++_, append-assoc}
 use Prim.Native.Nat.{ℕ, suc, _+_, _^_, _<_, _≤_}
@@ -23,7 +23,7 @@ use Rattle.block.specs.declared.Fast.the-variants.{BlockMove, PushRets, PopPc, 
 use Rattle.block.specs.declared.Memory.{Memory}
 use Rattle.block.specs.declared.BOp.{BOp}
 use Rattle.block.specs.declared.Block.{Block}
-use Rattle.block.specs.Block.{opsOf, mayJump, saved}
+use Rattle.block.specs.Block.{opsOf, mayJump, inFlash, saved}
 use Rattle.block.specs.Checked.{Checked, OpsFit, NoneAfterJump}
 use Rattle.code.specs.Items.{pick}
 use Rattle.code.specs.Tree.{top, Code, words}
@@ -31,22 +31,23 @@ use Rattle.code.specs.Machine.{Machine, Out, fell, went, left, ended, andThen, 
 use Rattle.machine.specs.State.{State, xip, R}
 use Rattle.machine.specs.Memory.{bytesOf}
 use Rattle.machine.specs.Execute.{Helpers}
-use Rattle.card.specs.Card.{Card, arrive, reg, rhs, setReg, addSp}
+use Rattle.card.specs.Card.{Card, arrive, reg, rhs, setReg, addSp, versionAt}
+use Rattle.card.specs.Card.{guard as cardGuard}
 use Rattle.card.specs.Word.{minus, holds}
-use Rattle.card.specs.Memory.{Access, got, unmet}
+use Rattle.card.specs.Memory.{Access, got, unmet, ask}
 use Rattle.card.specs.Memory.{load as loadCard}
 use lib.Bits.{bitAnd}
 use Rattle.card.specs.Step.{Way, exits, chains, After, on, out, starved, withLoaded, pop, indBrk, popAll, opStep}
 use Rattle.card.specs.Step.{fork as forkCard, ind as indCard}
-use Rattle.card.specs.Run.{End, checked, opsFrom}
+use Rattle.card.specs.Run.{End, checked, opsFrom, guarded, guardTest}
 use Rattle.card.specs.Run.{left as leaves, andThen as thenCard, run as runCard}
 use Rattle.lowering.specs.declared.RegCache.{RegCache}
 use Rattle.lowering.specs.Cache.{emptyCache}
-use Rattle.lowering.specs.Steps.{Step, behind, opSteps, opsSteps, blockSteps}
+use Rattle.lowering.specs.Steps.{Step, behind, opSteps, opsSteps, guardSteps, blockSteps}
 use Rattle.lowering.specs.Fragments.{stepCode, stepCache, stepsCode}
 use Rattle.lowering.specs.Compile.{starts, targets}
 use Rattle.relation.specs.Lines.{Stop, arm}
-use Rattle.relation.specs.Abs.{Abs, Then, go, off, void, upd, mstep, mrun}
+use Rattle.relation.specs.Abs.{Abs, Then, go, off, void, upd, kill, ifGot, mstep, mrun}
 use Rattle.relation.specs.Abs.{andThen as thenAbs}
 use Rattle.relation.specs.Relation.{Body, Sim, Leaves}
 use Rattle.relation.specs.Fits.{StepFits}
@@ -56,6 +57,8 @@ use Rattle.kinds.proofs.Fit.{op-fits}
 use Rattle.readiness.proofs.Encodable.{op-known}
 use Rattle.lowering.proofs.Targets.{targets-append}
 use Rattle.simulation.proofs.Sites.{Aimed}
+use Rattle.simulation.proofs.Sites.{sited as step-sited}
+use Rattle.simulation.proofs.Guard.{guard-meets}
 use Rattle.simulation.proofs.Steps.{siteAt, leaves-as, leaves-front, front-same, aimed-front}
 use Rattle.simulation.proofs.Steps.{met-then, cacheAfter, step-met, StepsMet, steps-met}
 use Rattle.registers.proofs.Frags.{frag-nil}
@@ -338,24 +341,113 @@ module _ {b : Block} {h : Helpers} {s0 : State} (B : Body b h s0) (C : Checked b
   limit-met rc a k =
       subst (λ r. StepsMet B C base rc a (limitStep ∷ []) r) (by (ltb lim (a .c .done + b .n)))
       (met-then (mstep b flash lim limitStep a) (λ a₁. go a₁)
-      (step-met B C base rc a limitStep (omega (arith, C .pc0-to), omega (arith, C .count)) k)
+      (step-met B C base rc a limitStep (omega (arith, C .pc0), omega (arith, C .count)) k)
       (λ a₁. record { meets = frag-nil; sited = λ p. (refl, refl) }))
     where
       by : (u : Bool) → thenAbs (limited u a) (λ a₁. go a₁) ≡ limited u a
       by true = refl
       by false = refl
 
+  -- ---- the guard of a RAM block, with nothing in the slots
+  abbrev guardStep : Step
+  guardStep = Step.guard (b .guard .at) (b .guard .«h_ram_ok») (b .pc0)
+
+  abbrev guardSame : Abs → Bool
+  guardSame a = eqb (a .c .version) (versionAt (a .c .guards) (b .guard .at))
+
+  abbrev kept : Abs → Card → Abs
+  kept a c = record { c = c; t = kill (a .t); f = none }
+
+  -- what the answer leads to
+  abbrev answered : Abs → (v : ℕ) → Card → Then
+  answered a v c = cond (eqb v 0) (off exits (arrive (b .pc0) 0 c)) (go (kept a c))
+
+  abbrev asking : (same : Bool) → Access → Abs → Then
+  asking u r a = cond u (go (kept a (a .c))) (ifGot r (answered a))
+
+  abbrev ask-guard : Abs → Access
+  ask-guard a = ask (cardGuard (b .guard .at)) (a .c .outcomes) (a .c)
+
+  guard-met : inFlash (b .pc0) ≡ false → (a : Abs) → StepsMet B C base emptyCache a (guardStep ∷ []) (asking (guardSame a) (ask-guard a) a)
+  unfolding stepsCode cacheAfter starts stepCode stepCache mstep
+  guard-met f a =
+      subst (λ r. StepsMet B C base emptyCache a (guardStep ∷ []) r) (by (guardSame a) (ask-guard a))
+      (met-then (asking (guardSame a) (ask-guard a) a) (λ a₁. go a₁)
+      (record {
+        meets = guard-meets B C base top (B .guarded f) a (b .pc0) (C .pc0);
+        sited = λ p. step-sited b emptyCache p a flash lim guardStep;
+      })
+      (λ a₁. record { meets = frag-nil; sited = λ p. (refl, refl) }))
+    where
+      way : (u : Bool) (c : Card)
+          → thenAbs (cond u (off exits (arrive (b .pc0) 0 c)) (go (kept a c))) (λ a₁. go a₁)
+          ≡ cond u (off exits (arrive (b .pc0) 0 c)) (go (kept a c))
+      way true c = refl
+      way false c = refl
+
+      by : (u : Bool) (r : Access) → thenAbs (asking u r a) (λ a₁. go a₁) ≡ asking u r a
+      by true r = refl
+      by false (got v c) = way (eqb v 0) c
+      by false unmet = refl
+
+  -- the operations, from any card
+  operations : (a : Abs) (w : Way) (d : Card) → opsFrom m flash 0 (b .pc0) (opsOf b) (a .c) ≡ leaves w d
+      → (q : ℕ) (u : State) → Sim b s0 emptyCache a u → Leaving emptyCache (opsSteps 0 (b .pc0) (opsOf b)) q u w d
+  operations a w d e q u j =
+      ops-leave (opsOf b) 0 (b .pc0) (C .ops) (C .last-jumps) (omega (arith, ops-count, C .count)) (omega (arith, C .pc0)) emptyCache a w d
+      e q u j
+
+  -- the guard, if there is one, and then they
+  guard-leave : (a : Abs) (w : Way) (d : Card) → guardTest b (a .c) (λ c. opsFrom m flash 0 (b .pc0) (opsOf b) c) ≡ leaves w d
+      → (q : ℕ) (u : State) → Sim b s0 emptyCache a u → Leaving emptyCache (guardSteps b ++ opsSteps 0 (b .pc0) (opsOf b)) q u w d
+  unfolding cacheAfter stepCache
+  guard-leave a w d e q u j = start (inFlash (b .pc0)) refl e
+    where
+      rest : List Step
+      rest = opsSteps 0 (b .pc0) (opsOf b)
+
+      ends : Card → End
+      ends c = opsFrom m flash 0 (b .pc0) (opsOf b) c
+
+      ask-ends : (flashed same : Bool) → Access → End
+      ask-ends t y r = cond (t || y) (ends (a .c)) (guarded r (arrive (b .pc0) 0 (a .c)) (b .pc0) ends)
+
+      -- the block leaves with nothing done
+      way : (v : ℕ) (c : Card) (z : Bool) → cond z (leaves exits (arrive (b .pc0) 0 c)) (ends c) ≡ leaves w d
+          → StepsMet B C base emptyCache a (guardStep ∷ []) (cond z (off exits (arrive (b .pc0) 0 c)) (go (kept a c)))
+          → Leaving emptyCache ((guardStep ∷ []) ++ rest) q u w d
+      way v c true e₁ x =
+          let ew : exits ≡ w = cc in
+          let ed : arrive (b .pc0) 0 c ≡ d = cc in
+          subst (λ y. Leaving emptyCache ((guardStep ∷ []) ++ rest) q u y d) ew
+          (subst (λ y. Leaving emptyCache ((guardStep ∷ []) ++ rest) q u exits y) ed
+          (leave-out emptyCache a (guardStep ∷ []) rest exits (arrive (b .pc0) 0 c) x q u j))
+      way v c false e₁ x =
+          leave-on emptyCache a (kept a c) (guardStep ∷ []) rest w d x (λ q₁ u₁ j₁. operations (kept a c) w d e₁ q₁ u₁ j₁) q u j
+
+      by : (y : Bool) (r : Access) → ask-ends false y r ≡ leaves w d → StepsMet B C base emptyCache a (guardStep ∷ []) (asking y r a)
+          → Leaving emptyCache ((guardStep ∷ []) ++ rest) q u w d
+      by true r e₁ x =
+          leave-on emptyCache a (kept a (a .c)) (guardStep ∷ []) rest w d x (λ q₁ u₁ j₁. operations (kept a (a .c)) w d e₁ q₁ u₁ j₁) q u j
+      by false (got v c) e₁ x = way v c (eqb v 0) e₁ x
+      by false unmet e₁ x = absurd (let z : _≡_ {A = ℕ} 0 1 = cc in omega arith)
+
+      start : (t : Bool) → inFlash (b .pc0) ≡ t → ask-ends t (guardSame a) (ask-guard a) ≡ leaves w d
+          → Leaving emptyCache (pick t [] (guardStep ∷ []) ++ rest) q u w d
+      start true f e₁ = operations a w d e₁ q u j
+      start false f e₁ = by (guardSame a) (ask-guard a) e₁ (guard-met f a)
+
   pub body-leaves : (a : Abs) (w : Way) (d : Card) → a .c .done + b .n < 2 ^ 32 → runCard b flash lim (a .c) ≡ leaves w d
       → (p : ℕ) (s : State) → Sim b s0 emptyCache a s → Leaving emptyCache (blockSteps b) p s w d
-  unfolding runCard blockSteps
+  unfolding runCard blockSteps cacheAfter stepCache
   body-leaves a w d k e p s j =
       by (ltb lim (a .c .done + b .n)) (subst (λ n. ends (ltb lim (a .c .done + n)) ≡ leaves w d) ops-count e) (limit-met emptyCache a k)
     where
       ends : (over : Bool) → End
-      ends u = cond u (leaves exits (arrive (b .pc0) 0 (a .c))) (opsFrom m flash 0 (b .pc0) (opsOf b) (a .c))
+      ends u = cond u (leaves exits (arrive (b .pc0) 0 (a .c))) (guardTest b (a .c) (λ c. opsFrom m flash 0 (b .pc0) (opsOf b) c))
 
       rest : List Step
-      rest = opsSteps 0 (b .pc0) (opsOf b)
+      rest = guardSteps b ++ opsSteps 0 (b .pc0) (opsOf b)
 
       by : (u : Bool) → ends u ≡ leaves w d → StepsMet B C base emptyCache a (limitStep ∷ []) (limited u a)
           → Leaving emptyCache ((limitStep ∷ []) ++ rest) p s w d
@@ -365,7 +457,4 @@ module _ {b : Block} {h : Helpers} {s0 : State} (B : Body b h s0) (C : Checked b
           subst (λ y. Leaving emptyCache ((limitStep ∷ []) ++ rest) p s y d) ew
           (subst (λ y. Leaving emptyCache ((limitStep ∷ []) ++ rest) p s exits y) ed
           (leave-out emptyCache a (limitStep ∷ []) rest exits (arrive (b .pc0) 0 (a .c)) x p s j))
-      by false e₁ x =
-          leave-on emptyCache a (within a) (limitStep ∷ []) rest w d x
-          (λ q u ju. ops-leave (opsOf b) 0 (b .pc0) (C .ops) (C .last-jumps) (omega (arith, ops-count, C .count)) (omega (arith, C .pc0-to))
-          (cacheAfter emptyCache (limitStep ∷ [])) (within a) w d e₁ q u ju) p s j
+      by false e₁ x = leave-on emptyCache a (within a) (limitStep ∷ []) rest w d x (λ q u ju. guard-leave (within a) w d e₁ q u ju) p s j

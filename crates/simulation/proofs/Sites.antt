@@ -15,13 +15,15 @@ use Rattle.block.specs.declared.Width.{Width}
 use Rattle.block.specs.declared.Width.the-variants.{Byte as B8, Half as B16, Word as B32}
 use Rattle.code.specs.Tree.{Depth, top, under}
 use Rattle.machine.specs.Bits.{Nzcv, ConditionHolds}
-use Rattle.card.specs.Card.{Card, arrive, setHold}
-use Rattle.card.specs.Memory.{Access, got, unmet}
+use Rattle.card.specs.Card.{Card, arrive, setHold, versionAt}
+use Rattle.card.specs.Card.{guard as cardGuard}
+use Rattle.card.specs.Memory.{Access, got, unmet, ask}
 use Rattle.card.specs.Memory.{load as loadCard, store as storeCard}
 use Rattle.card.specs.Step.{Way, exits, chains, looksUp}
 use Rattle.lowering.specs.declared.RegCache.{RegCache}
 use Rattle.lowering.specs.Steps.{Step}
-use Rattle.lowering.specs.Fragments.{tryRegion, alignTest, mapTest, call, exitImm, chain, ind, checkBrk, fork, limit, load, store, stepCode}
+use Rattle.lowering.specs.Fragments.{tryRegion, alignTest, mapTest, call, exitImm, chain, ind, checkBrk, fork, limit, guard, load, store}
+use Rattle.lowering.specs.Fragments.{stepCode}
 use Rattle.lowering.specs.Compile.{starts, targets}
 use Rattle.relation.specs.Data.{Data, dataOf}
 use Rattle.relation.specs.Abs.{Abs, Then, go, off, void, upd, kill, vals, orStays, withTemp, known, ifGot, mins, mdata, ifAll, allSeen}
@@ -88,6 +90,10 @@ module _ (b : Block) (rc : RegCache) (p : ℕ) where
   unfolding stepCode limit exitImm starts
   none-limit pc count = (refl, refl)
 
+  none-guard : (at helper pc : ℕ) → None (Step.guard at helper pc)
+  unfolding stepCode guard call exitImm starts
+  none-guard at helper pc = (refl, refl)
+
   -- straight steps
   abbrev Straight : Step → Type 0
   Straight (Step.ldReg t r) = Unit {0}
@@ -104,6 +110,7 @@ module _ (b : Block) (rc : RegCache) (p : ℕ) where
   Straight (Step.fork k pc target count) = ⊥
   Straight (Step.ind t count brk) = ⊥
   Straight (Step.limit pc count) = ⊥
+  Straight (Step.guard at helper pc) = ⊥
 
   plain-none : (s : Step) → Straight s → None s
   unfolding stepCode starts
@@ -121,6 +128,7 @@ module _ (b : Block) (rc : RegCache) (p : ℕ) where
   plain-none (Step.fork k pc target count) h = absurd h
   plain-none (Step.ind t count brk) h = absurd h
   plain-none (Step.limit pc count) h = absurd h
+  plain-none (Step.guard at helper pc) h = absurd h
 
   one-site : (pc count : ℕ) (c : Card) → SitedStep (off (chains 0) (arrive pc count c)) (Step.chain pc count)
   unfolding stepCode chain starts
@@ -230,3 +238,19 @@ module _ (b : Block) (rc : RegCache) (p : ℕ) where
       by : (u : Bool) → SitedStep (cond u (off exits (arrive pc 0 (a .c))) (go within)) (Step.limit pc count)
       by true = (tt, tt)
       by false = none-limit pc count
+  sited a flash lim (Step.guard at helper pc) =
+      by (eqb (a .c .version) (versionAt (a .c .guards) at)) (ask (cardGuard at) (a .c .outcomes) (a .c))
+    where
+      kept : Card → Abs
+      kept c = record { c = c; t = kill (a .t); f = none }
+
+      answered : (u : Bool) (c : Card) → SitedStep (cond u (off exits (arrive pc 0 c)) (go (kept c))) (Step.guard at helper pc)
+      answered true c = (tt, tt)
+      answered false c = none-guard at helper pc
+
+      by : (u : Bool) (r : Access)
+          → SitedStep (cond u (go (kept (a .c))) (ifGot r (λ v c. cond (eqb v 0) (off exits (arrive pc 0 c)) (go (kept c)))))
+          (Step.guard at helper pc)
+      by true r = none-guard at helper pc
+      by false (got v c) = answered (eqb v 0) c
+      by false unmet = tt

@@ -39,7 +39,7 @@ use Rattle.simulation.proofs.Sites.{Has, Aimed, Sited}
 use Rattle.simulation.proofs.Sites.{sited as step-sited}
 
 -- ---- one step
--- the limit's test adds to the done count, which must not pass 32 bits
+-- the limit's test adds to the done count, which must not pass 32 bits; the guard stands behind it, with nothing in the slots (Guard.antt)
 abbrev pub LimitFits : Step → Abs → Type 0
 LimitFits (Step.ldReg t r) a = Unit {0}
 LimitFits (Step.stReg t r) a = Unit {0}
@@ -55,8 +55,9 @@ LimitFits (Step.chain pc count) a = Unit {0}
 LimitFits (Step.fork k pc target count) a = Unit {0}
 LimitFits (Step.ind t count brk) a = Unit {0}
 LimitFits (Step.limit pc count) a = a .c .done + count < 2 ^ 32
+LimitFits (Step.guard at helper pc) a = ⊥
 
--- the steps of operations have no test of the limit
+-- the steps of operations have no test of the limit and no guard
 unlimited : (s : Step) (a : Abs) → StepKnown s → LimitFits s a
 unlimited (Step.ldReg t r) a h = tt
 unlimited (Step.stReg t r) a h = tt
@@ -72,6 +73,7 @@ unlimited (Step.chain pc count) a h = tt
 unlimited (Step.fork k pc target count) a h = tt
 unlimited (Step.ind t count brk) a h = tt
 unlimited (Step.limit pc count) a h = absurd h
+unlimited (Step.guard at helper pc) a h = absurd h
 
 module _ {b : Block} {h : Helpers} {s0 : State} (B : Body b h s0) (C : Checked b) (base : ℕ) where
   abbrev flash : List ℕ
@@ -95,6 +97,7 @@ module _ {b : Block} {h : Helpers} {s0 : State} (B : Body b h s0) (C : Checked b
   step-ok rc a (Step.fork q pc target count) f k = fork-meets B C base top flash lim rc a q pc target count f
   step-ok rc a (Step.ind t count brk) f k = ind-meets B C base top flash lim rc a t count brk f
   step-ok rc a (Step.limit pc count) f k = limit-meets B C base top flash rc a pc count f k
+  step-ok rc a (Step.guard at helper pc) f k = absurd k
 
 -- ---- code that leaves, with what stands before and behind it
 -- the address of the site that a way out leads by, of the positions ss

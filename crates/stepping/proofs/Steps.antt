@@ -5,7 +5,8 @@ use Rattle.block.specs.declared.Block.{Block}
 use Rattle.code.specs.Tree.{Depth, top, Code, code, _then_, nowhere}
 use Rattle.lowering.specs.declared.RegCache.{RegCache}
 use Rattle.lowering.specs.Steps.{Step}
-use Rattle.lowering.specs.Fragments.{call, exitImm, chain, ind, hold, checkBrk, fork, limit, load, store, stepCode, stepCache, stepsCode}
+use Rattle.lowering.specs.Fragments.{call, exitImm, chain, ind, hold, checkBrk, fork, limit, guard, load, store, stepCode, stepCache}
+use Rattle.lowering.specs.Fragments.{stepsCode}
 use Rattle.lowering.specs.Given.{given}
 use Rattle.asm.specs.State.{State}
 use Rattle.emission.specs.Total.{afterT, startsT}
@@ -18,7 +19,7 @@ module _ (blk : Block) where
   fields = given (blk .layout) (blk .memory) (blk .addresses)
 
   pub given-step : {n : Depth} (rc : RegCache) (s : Step) → stepCode blk rc {n = n} s ≡ stepCode fields rc s
-  unfolding call exitImm chain ind hold checkBrk fork limit load store stepCode
+  unfolding call exitImm chain ind hold checkBrk fork limit guard load store stepCode
   given-step rc (Step.ldReg t r) = refl
   given-step rc (Step.stReg t r) = refl
   given-step rc (Step.ldField f t) = refl
@@ -33,6 +34,7 @@ module _ (blk : Block) where
   given-step rc (Step.fork cond pc target count) = refl
   given-step rc (Step.ind t count brk) = refl
   given-step rc (Step.limit pc count) = refl
+  given-step rc (Step.guard at helper pc) = refl
 
   pub given-steps : (rc : RegCache) (ss : List Step) → stepsCode blk rc ss ≡ stepsCode fields rc ss
   unfolding stepsCode

@@ -85,7 +85,9 @@ fn text(number: u32) -> &'static str {
         14 => "an offset that is no multiple of 4",
         15 => "two places of the processor record that overlap",
         6 => "a region shorter than 4, with a base that is no multiple of 4, or that ends above 2^32",
-        7 => "a block's address outside 02000000 to 03ffffff",
+        7 => "a block's address neither in flash's range, 02000000 to 03ffffff, nor inside RAM",
+        16 => "tag 06 next behind a start in flash's range, or not next behind one in RAM",
+        17 => "an operation of a block in RAM that reaches past RAM's end",
         10 => "more words are needed than lent; the record has no other fault",
         11 => "a link's body out of reach",
         12 => "a link's address that is no multiple of 4",
@@ -141,7 +143,7 @@ impl Translator {
         }
     }
 
-    /// The words of an accepted record's block, in `words`; or the first fault, and every lent word 0. 28,124 words are enough for every
+    /// The words of an accepted record's block, in `words`; or the first fault, and every lent word 0. 28,166 words are enough for every
     /// block; [`words_needed`](Translator::words_needed) says how many it takes.
     ///
     /// ```

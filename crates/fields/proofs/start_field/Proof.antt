@@ -1,10 +1,11 @@
--- `start_field` meets its contract: the header's fault, or that of the payload lent.
+-- `start_field` meets its contract: the header's fault, or that of the start, with the memory of field 02.
 use borrow.Author.Needs.{needs}
 use Rattle.fields.proofs.start_field.Statement.{statement}
 use Rattle.fields.proofs.start_field.Tie as tie
-use mathlib.Core.Path.{sym, ap, _∙_}
-use native.Mathlib.Omega.{arith}
-use Rattle.fields.specs.Fields.{startField, num32, startFault}
+use Prim.Native.Nat.{ℕ}
+use mathlib.Core.Path.{sym, ap, ap₂, _∙_}
+use Rattle.block.specs.declared.Memory.{Memory}
+use Rattle.fields.specs.Fields.{memoryOf, startField, startFault}
 use Rattle.operands.proofs.Laws.{then-none, then-some}
 use Rattle.fields.proofs.Laws.{field-whole, payload-part}
 
@@ -15,19 +16,22 @@ returns : tie.Need-returns
 unfolding startField
 returns c = rw (← c .before .field-fault .ensures) (then-some _ _ (c .if1 .taken))
 
-sub-get32 : tie.Need-sub-get32
-sub-get32 c = search needs
+sub-memory-of : tie.Need-sub-memory-of
+sub-memory-of c = search needs
 
-part-get32-start : tie.Need-part-get32-start
-part-get32-start c = search needs
+part-memory-of-start : tie.Need-part-memory-of-start
+part-memory-of-start c = search needs
 
-part-get32-end : tie.Need-part-get32-end
-part-get32-end c =
-    let e = sym (c .before .field-fault .ensures) ∙ c .if1 .left in
-    omega (arith, field-whole (c .before .before .before .args .s .now) 70 4 4 e .inside)
+part-memory-of-end : tie.Need-part-memory-of-end
+part-memory-of-end c = search needs
 
-get32-requires : tie.Need-get32-requires
-get32-requires c κs = search needs
+memory-of-requires : tie.Need-memory-of-requires
+memory-of-requires c κs = search needs
+
+start-of-requires : tie.Need-start-of-requires
+start-of-requires c κs =
+    let f = c .before .before in
+    sym (f .before .field-fault .ensures) ∙ f .if1 .left
 
 start-fault-requires : tie.Need-start-fault-requires
 start-fault-requires c κs = search needs
@@ -35,10 +39,14 @@ start-fault-requires c κs = search needs
 returns-2 : tie.Need-returns-2
 unfolding startField
 returns-2 c =
-    let e = sym (c .before .before .before .before .field-fault .ensures) ∙ c .before .before .before .if1 .left in
-    let part = payload-part (c .before .before .before .before .before .before .args .s .now) 70 4 (field-whole _ 70 4 4 e) in
+    let m = c .before .before in
+    let f = m .before .before in
+    let a = f .before .before .before in
+    let e = sym (f .before .field-fault .ensures) ∙ f .if1 .left in
+    let s = a .args .s .now in
+    let memory = m .memory-of .ensures ∙ ap memoryOf (payload-part s 23 17 (field-whole s 23 2 17 (a .pre .1))) in
     c .start-fault .ensures
-    ∙ ap startFault (c .before .get32 .ensures ∙ ap (λ p. num32 p 0) part)
+    ∙ ap₂ (λ (x : Memory) (n : ℕ). startFault x s n) memory (c .before .start-of .ensures)
     ∙ then-none _ _ e
 
 pub start-field-spec : {M : Type 1} → statement M
@@ -47,9 +55,10 @@ start-field-spec =
     (tie.spec
     field-fault-requires
     returns
-    sub-get32
-    part-get32-start
-    part-get32-end
-    get32-requires
+    sub-memory-of
+    part-memory-of-start
+    part-memory-of-end
+    memory-of-requires
+    start-of-requires
     start-fault-requires
     returns-2)

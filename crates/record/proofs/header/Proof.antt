@@ -1,13 +1,11 @@
--- `header` meets its contract: the parts lent are the payloads of the four fields.
+-- `header` meets its contract: the parts lent are the payloads of fields 01 to 03; the start and the guard have functions of their own.
 use borrow.Author.Needs.{needs}
 use Rattle.record.proofs.header.Statement.{statement}
 use Rattle.record.proofs.header.Tie as tie
-use Prim.Native.Nat.{ℕ}
 use mathlib.Core.Path.{ap, _∙_}
 use native.Mathlib.Omega.{arith}
-use mathlib.Core.List.{List}
-use Rattle.record.specs.Record.{num32, layoutOf, memoryOf, addressesOf, header}
-use Rattle.fields.proofs.Laws.{field-whole, payload-part}
+use Rattle.record.specs.Record.{layoutOf, memoryOf, addressesOf, header}
+use Rattle.fields.proofs.Laws.{layout-whole, memory-whole, addresses-whole, start-whole, payload-part}
 
 no-block-requires : tie.Need-no-block-requires
 no-block-requires c κs = search needs
@@ -19,7 +17,7 @@ part-layout-of-start : tie.Need-part-layout-of-start
 part-layout-of-start c = search needs
 
 part-layout-of-end : tie.Need-part-layout-of-end
-part-layout-of-end c = omega (arith, field-whole _ 0 1 20 (c .before .before .before .pre .0) .inside)
+part-layout-of-end c = omega (arith, layout-whole _ (c .before .before .before .pre .0 .layout) .1 .inside)
 
 layout-of-requires : tie.Need-layout-of-requires
 layout-of-requires c κs = search needs
@@ -31,7 +29,7 @@ part-memory-of-start : tie.Need-part-memory-of-start
 part-memory-of-start c = search needs
 
 part-memory-of-end : tie.Need-part-memory-of-end
-part-memory-of-end c = omega (arith, field-whole _ 23 2 17 (c .before .before .before .before .before .pre .1) .inside)
+part-memory-of-end c = omega (arith, memory-whole _ (c .before .before .before .before .before .pre .0 .memory) .1 .inside)
 
 memory-of-requires : tie.Need-memory-of-requires
 memory-of-requires c κs = search needs
@@ -43,38 +41,40 @@ part-addresses-of-start : tie.Need-part-addresses-of-start
 part-addresses-of-start c = search needs
 
 part-addresses-of-end : tie.Need-part-addresses-of-end
-part-addresses-of-end c = omega (arith, field-whole _ 43 3 24 (c .before .before .before .before .before .before .before .pre .2) .inside)
+part-addresses-of-end c =
+    let a = c .before .before .before .before .before .before .before in
+    omega (arith, addresses-whole _ (a .pre .0 .addresses) .1 .inside)
 
 addresses-of-requires : tie.Need-addresses-of-requires
 addresses-of-requires c κs = search needs
 
-sub-get32 : tie.Need-sub-get32
-sub-get32 c = search needs
+start-of-requires : tie.Need-start-of-requires
+start-of-requires c κs =
+    let a = c .before .before .before .before .before .before .before .before .before in
+    start-whole _ (a .pre .0 .start) .0
 
-part-get32-start : tie.Need-part-get32-start
-part-get32-start c = search needs
-
-part-get32-end : tie.Need-part-get32-end
-part-get32-end c =
-    omega (arith, field-whole _ 70 4 4 (c .before .before .before .before .before .before .before .before .before .pre .3) .inside)
-
-get32-requires : tie.Need-get32-requires
-get32-requires c κs = search needs
+guard-at-requires : tie.Need-guard-at-requires
+guard-at-requires c κs =
+    let a = c .before .before .before .before .before .before .before .before .before .before in
+    (start-whole _ (a .pre .0 .start) .0, a .pre .1)
 
 returns : tie.Need-returns
 unfolding header
 returns c =
-    let a = c .before .before .before .before .before .before .before .before .before .before .before in
+    let c₃ = c .before .before in
+    let c₂ = c₃ .before .before in
+    let c₁ = c₂ .before .before in
+    let n = c₁ .before .before .before in
+    let a = n .before .before in
+    let s = a .args .s .now in
+    let f = a .pre .0 in
     rw (
-      c .before .before .before .before .before .before .layout-of .ensures
-          ∙ ap layoutOf (payload-part (a .args .s .now) 0 20 (field-whole _ 0 1 20 (a .pre .0))),
-      c .before .before .before .before .memory-of .ensures
-          ∙ ap memoryOf (payload-part (a .args .s .now) 23 17 (field-whole _ 23 2 17 (a .pre .1))),
-      c .before .before .addresses-of .ensures
-          ∙ ap addressesOf (payload-part (a .args .s .now) 43 24 (field-whole _ 43 3 24 (a .pre .2))),
-      c .get32 .ensures
-          ∙ ap (λ (q : List ℕ). num32 q 0) (payload-part (a .args .s .now) 70 4 (field-whole _ 70 4 4 (a .pre .3))),
-      c .before .before .before .before .before .before .before .before .before .no-block .ensures,
+      c₁ .layout-of .ensures ∙ ap layoutOf (payload-part s 0 20 (layout-whole s (f .layout) .1)),
+      c₂ .memory-of .ensures ∙ ap memoryOf (payload-part s 23 17 (memory-whole s (f .memory) .1)),
+      c₃ .addresses-of .ensures ∙ ap addressesOf (payload-part s 43 24 (addresses-whole s (f .addresses) .1)),
+      c .before .start-of .ensures,
+      c .guard-at .ensures,
+      n .no-block .ensures,
     )
 
 pub header-spec : {M : Type 1} → statement M
@@ -94,8 +94,6 @@ header-spec =
     part-addresses-of-start
     part-addresses-of-end
     addresses-of-requires
-    sub-get32
-    part-get32-start
-    part-get32-end
-    get32-requires
+    start-of-requires
+    guard-at-requires
     returns)

@@ -5,20 +5,34 @@ use Rattle.record.proofs.read.Statement.{statement}
 use Rattle.record.proofs.read.Tie as tie
 use Prim.Native.Nat.{ℕ}
 use mathlib.Core.Path.{_≡_, sym, ap, _∙_}
+use mathlib.Core.Bool.{Bool}
 use native.Mathlib.Omega.{arith}
 use lib.ListN.{length}
 use mathlib.Core.List.{List}
 use Rattle.block.specs.declared.Block.{Block}
+use Rattle.block.specs.Block.{inFlash}
 use Rattle.block.specs.Checked.{Checked}
-use Rattle.record.specs.Record.{Reading, Accepted, reading, operations, header, Told}
+use Rattle.record.specs.Record.{Reading, Accepted, layoutField, memoryField, addressesField, startField, reading, operations}
+use Rattle.record.specs.Record.{header, Told}
+use Rattle.record.specs.Parts.{Faultless}
 use Rattle.record.proofs.Accepted.{Bytes, answer-checked}
+use Rattle.record.proofs.Behind.{flash-reading}
 use Rattle.record.proofs.Faults.{told}
 use Rattle.record.proofs.Steps.{refuse, pass}
-use Rattle.fields.proofs.Laws.{layout-whole, memory-whole, addresses-whole, start-whole}
+use Rattle.fields.proofs.Laws.{layout-whole, memory-whole, addresses-whole, start-whole, no-guard}
 
 promised : (s : List ℕ) {r : Reading} → Bytes s → r ≡ reading s
     → (r ≡ reading s) × ((r .answer ≡ Accepted → Checked (r .block)) × Told s (r .answer))
 promised s {r} h e = (e, (answer-checked s r h e, rw e (told s)))
+
+-- the four fields passed
+faultless : {s : List ℕ} {l m a t : ℕ} → l ≡ layoutField s → l ≡ 0 → m ≡ memoryField s → m ≡ 0 → a ≡ addressesField s → a ≡ 0
+    → t ≡ startField s → t ≡ 0 → Faultless s
+faultless l l₀ m m₀ a a₀ t t₀ = record { layout = sym l ∙ l₀; memory = sym m ∙ m₀; addresses = sym a ∙ a₀; start = sym t ∙ t₀ }
+
+-- whether the start is in flash's range, as the code has tested it
+in-range : {n a : ℕ} {f t : Bool} → a ≡ n → f ≡ inFlash a → f ≡ t → inFlash n ≡ t
+in-range a f t = ap inFlash (sym a) ∙ sym f ∙ t
 
 layout-field-requires : tie.Need-layout-field-requires
 layout-field-requires c κs = search needs
@@ -72,7 +86,11 @@ returns-3 c =
     ∙ pass _ 0 _ (c₁ .before .layout-field .ensures) (c₁ .if1 .left))
 
 start-field-requires : tie.Need-start-field-requires
-start-field-requires c κs = omega (arith, addresses-whole _ (sym (c .before .addresses-field .ensures) ∙ c .if3 .left) .1 .inside)
+start-field-requires c κs =
+    let m = c .before .before in (
+      omega (arith, addresses-whole _ (sym (c .before .addresses-field .ensures) ∙ c .if3 .left) .1 .inside),
+      memory-whole _ (sym (m .before .memory-field .ensures) ∙ m .if2 .left) .0,
+    )
 
 refused-requires-4 : tie.Need-refused-requires-4
 refused-requires-4 c κs = search needs
@@ -92,41 +110,68 @@ returns-4 c =
     ∙ pass _ 23 _ (c₂ .before .memory-field .ensures) (c₂ .if2 .left)
     ∙ pass _ 0 _ (c₁ .before .layout-field .ensures) (c₁ .if1 .left))
 
+start-of-requires : tie.Need-start-of-requires
+start-of-requires c κs = start-whole _ (sym (c .before .start-field .ensures) ∙ c .if4 .left) .0
+
+in-flash-requires : tie.Need-in-flash-requires
+in-flash-requires c κs = search needs
+
 header-requires : tie.Need-header-requires
 header-requires c κs =
-    let c₃ = c .before .before in
+    let o = c .before .before in
+    let c₄ = o .before in
+    let c₃ = c₄ .before .before in
     let c₂ = c₃ .before .before in
-    let c₁ = c₂ .before .before in (
-      layout-whole _ (sym (c₁ .before .layout-field .ensures) ∙ c₁ .if1 .left) .0,
-      memory-whole _ (sym (c₂ .before .memory-field .ensures) ∙ c₂ .if2 .left) .0,
-      addresses-whole _ (sym (c₃ .before .addresses-field .ensures) ∙ c₃ .if3 .left) .0,
-      start-whole _ (sym (c .before .start-field .ensures) ∙ c .if4 .left) .0,
-    )
+    let c₁ = c₂ .before .before in
+    let f =
+    faultless (c₁ .before .layout-field .ensures) (c₁ .if1 .left) (c₂ .before .memory-field .ensures) (c₂ .if2 .left)
+    (c₃ .before .addresses-field .ensures) (c₃ .if3 .left) (c₄ .before .start-field .ensures) (c₄ .if4 .left) in
+    (f, no-guard _ (in-range (o .start-of .ensures) (c .before .in-flash .ensures) (c .if5 .taken)))
 
 read-operations-requires : tie.Need-read-operations-requires
 unfolding header
-read-operations-requires c κs = (
-  omega (arith, start-whole _ (sym (c .before .before .start-field .ensures) ∙ c .before .if4 .left) .1 .inside),
-  ap (λ (b : Block). b .n) (c .header .ensures),
-  ap (λ (b : Block). length (b .ops)) (c .header .ensures),
-)
+read-operations-requires c κs =
+    let c₄ = c .before .before .before .before in (
+      omega (arith, start-whole _ (sym (c₄ .before .start-field .ensures) ∙ c₄ .if4 .left) .1 .inside),
+      ap (λ (b : Block). b .n) (c .header .ensures),
+      ap (λ (b : Block). length (b .ops)) (c .header .ensures),
+    )
 
 returns-5 : tie.Need-returns-5
-unfolding reading
 returns-5 c =
-    let c₄ = c .before .before in
+    let c₅ = c .before .before in
+    let o = c₅ .before .before in
+    let c₄ = o .before in
     let c₃ = c₄ .before .before in
     let c₂ = c₃ .before .before in
     let c₁ = c₂ .before .before in
     let k = c₁ .before .before in
     let s = k .before .args .s .now in
+    let f =
+    faultless (c₁ .before .layout-field .ensures) (c₁ .if1 .left) (c₂ .before .memory-field .ensures) (c₂ .if2 .left)
+    (c₃ .before .addresses-field .ensures) (c₃ .if3 .left) (c₄ .before .start-field .ensures) (c₄ .if4 .left) in
     promised s (λ i. omega (arith, k .shared-slice-known .given i))
     (c .read-operations .ensures
     ∙ ap (λ (b : Block). operations 33 s 77 b) (c .before .header .ensures)
-    ∙ pass _ 70 _ (c₄ .before .start-field .ensures) (c₄ .if4 .left)
-    ∙ pass _ 43 _ (c₃ .before .addresses-field .ensures) (c₃ .if3 .left)
-    ∙ pass _ 23 _ (c₂ .before .memory-field .ensures) (c₂ .if2 .left)
-    ∙ pass _ 0 _ (c₁ .before .layout-field .ensures) (c₁ .if1 .left))
+    ∙ flash-reading s f (in-range (o .start-of .ensures) (c₅ .before .in-flash .ensures) (c₅ .if5 .taken)))
+
+read-ram-requires : tie.Need-read-ram-requires
+read-ram-requires c κs =
+    let o = c .before .before in
+    let c₄ = o .before in
+    let c₃ = c₄ .before .before in
+    let c₂ = c₃ .before .before in
+    let c₁ = c₂ .before .before in
+    let f =
+    faultless (c₁ .before .layout-field .ensures) (c₁ .if1 .left) (c₂ .before .memory-field .ensures) (c₂ .if2 .left)
+    (c₃ .before .addresses-field .ensures) (c₃ .if3 .left) (c₄ .before .start-field .ensures) (c₄ .if4 .left) in
+    (f, in-range (o .start-of .ensures) (c .before .in-flash .ensures) (c .if5 .left))
+
+returns-6 : tie.Need-returns-6
+returns-6 c =
+    let c₄ = c .before .before .before .before in
+    let k = c₄ .before .before .before .before .before .before .before .before in
+    promised (k .before .args .s .now) (λ i. omega (arith, k .shared-slice-known .given i)) (c .read-ram .ensures)
 
 pub read-spec : {M : Type 1} → statement M
 read-spec =
@@ -144,6 +189,10 @@ read-spec =
     start-field-requires
     refused-requires-4
     returns-4
+    start-of-requires
+    in-flash-requires
     header-requires
     read-operations-requires
-    returns-5)
+    returns-5
+    read-ram-requires
+    returns-6)

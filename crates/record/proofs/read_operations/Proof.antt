@@ -14,21 +14,21 @@ use Rattle.record.specs.Record.{Answer, Accepted, lastJumps, operations}
 use Rattle.record.proofs.Steps.{counted, with-answer, good, judged-good, at-end, at-refusal, again}
 
 abbrev Inv-loop : tie.InvT-loop
-Inv-loop s m answer₀ block₀ n₀ jumped₀ at₀ answer block n jumped at =
+Inv-loop s from m answer₀ block₀ n₀ jumped₀ at₀ answer block n jumped at =
     (answer ≡ Accepted)
     × (at ≤ length s)
     × (n ≤ 32)
     × (length (block .ops) ≡ 32)
     × (m ≡ block .memory)
     × (jumped ≡ lastJumps n (block .ops))
-    × (operations (33 - n) s at (counted block n) ≡ operations 33 s 77 (counted block₀ 0))
+    × (operations (33 - n) s at (counted block n) ≡ operations 33 s from (counted block₀ 0))
 
 abbrev μ-loop : tie.MeasureT-loop
-μ-loop s m answer₀ block₀ n₀ jumped₀ at₀ answer block n jumped at = length s - at
+μ-loop s from m answer₀ block₀ n₀ jumped₀ at₀ answer block n jumped at = length s - at
 
 -- a block that has no operation yet
-started : (s : List ℕ) (b : Block) → b .n ≡ 0 → operations 33 s 77 (counted b 0) ≡ operations 33 s 77 b
-started s b e = ap (λ (n : ℕ). operations 33 s 77 (counted b n)) (sym e)
+started : (s : List ℕ) (from : ℕ) (b : Block) → b .n ≡ 0 → operations 33 s from (counted b 0) ≡ operations 33 s from b
+started s from b e = ap (λ (n : ℕ). operations 33 s from (counted b n)) (sym e)
 
 loop-holds : tie.Need-loop-holds Inv-loop μ-loop
 loop-holds c = let s = c .before .before in (refl, s .pre .0, omega arith, s .pre .2, refl, refl, refl)
@@ -59,7 +59,7 @@ returns c =
     ap (λ (a : Answer). with-answer a (counted (l .block) (l .n))) (i .0)
     ∙ at-end _ (l .at) (l .n) (counted (l .block) (l .n)) (c .loop-test .left)
     ∙ i .6
-    ∙ started _ (s .args .b) (s .pre .1)
+    ∙ started _ (s .args .from) (s .args .b) (s .pre .1)
 
 returns-2 : tie.Need-returns-2 Inv-loop μ-loop
 returns-2 c =
@@ -70,7 +70,7 @@ returns-2 c =
     at-refusal _ _ (l .at) (l .n) (l .block) _ (l .jumped) _ (t .loop-test .taken) (i .2) (i .4) (i .5) (c .no-block .ensures)
     (sym (c .before .before .before .before .read-operation .ensures) ∙ c .before .before .o .given .1)
     ∙ i .6
-    ∙ started _ (s .args .b) (s .pre .1)
+    ∙ started _ (s .args .from) (s .args .b) (s .pre .1)
 
 pub read-operations-spec : {M : Type 1} → statement M
 read-operations-spec =
