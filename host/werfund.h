@@ -94,8 +94,8 @@ static inline const char *werfund_fault_text(uint32_t number) {
  * address in x1, and an answer of 0 in w0 makes it leave with nothing done: pc the block's address, the done count as it was. Copying the
  * block's bytes and comparing them is the host's. The field stands in no other record.
  *
- * 28,166 words are enough for every block. The longest that is known takes 22,684, in flash 22,666, and of kinds 0 to 39 alone
- * 3,268 and 3,250; werfund_words_needed says how many a block takes.
+ * 28,166 words are enough for every block. The longest that is known takes 22,684, in flash 22,666, and of kinds 0 to 39 alone 3,268 and
+ * 3,250; werfund_words_needed says how many a block takes.
  */
 uint32_t werfund_translate(const uint8_t *record, size_t record_bytes, uint32_t *words, size_t words_lent, uint64_t *table, uint64_t *answer,
                            size_t answer_cells);

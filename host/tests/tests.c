@@ -330,13 +330,14 @@ static void guards(void) {
         {0x02000000, 1, 0, 16, 70, 0},      /* a guard in flash's range */
         {0x00ffffff, 1, 0, 7, 70, 0},       /* neither, */
         {0x01010000, 0, 0, 7, 70, 0},       /* at either end of RAM, */
-        {0x04000000, 1, 1, 7, 70, 0},       /* and of flash's range */
+        {0x01ffffff, 1, 0, 7, 70, 0},       /* and of flash's range */
+        {0x04000000, 1, 1, 7, 70, 0},
     };
-    uint32_t *words = lend(57);
     werfund_answer a;
     uint8_t record[77 + sizeof guard + 3 * 6];
     for (size_t i = 0; i < sizeof block / sizeof *block; i++) {
         static const uint8_t nop[6] = {5, 3, 0, 0, 2, 0};
+        uint32_t *words = lend(57);
         size_t bytes = 77;
         uint32_t fault = block[i].fault;
         memcpy(record, empty_block, 77);
@@ -353,14 +354,19 @@ static void guards(void) {
         check(counts(record, bytes, fault, block[i].place, block[i].words), "a block in RAM, counted");
         check(werfund_translate_checked(record, bytes, words, 57, table, &a) == fault, "and translated");
         check(a.place == block[i].place && a.words == block[i].words, "at its place, or with its words");
-        check(fault != 0 ? all(words, 0, 57, 0) : a.body == 52 && a.sites == 1 && a.site[0].target == block[i].start + 2 * block[i].nops,
-              "its site leads to the address behind it, or its words are 0");
-        if (fault == 0) {
+        if (fault != 0) {
+            check(all(words, 0, 57, 0), "its words are 0");
+        } else {
+            check(a.body == 52 && a.sites == 1 && a.site[0].target == block[i].start + 2 * block[i].nops,
+                  "its site leads to the address behind it");
+            check(all(words, a.words, 57, BEFORE), "the words beyond it are untouched");
             check(words[20] == 0xf9401689 || words[21] == 0xf9401689, "the version is loaded behind the limit's test");
             check(words[a.words - 2] == 0xddeeff00 && words[a.words - 1] == 0x99aabbcc, "the last literal is the helper's address");
             fault = werfund_translate_checked(record, bytes, words, block[i].words - 1, table, &a);
             check(fault == WERFUND_ROOM && a.place == bytes, "one word fewer is fault 10 at the record's length");
+            check(all(words, 0, block[i].words - 1, 0), "and its words are 0");
         }
+        free(words);
     }
     memcpy(record, empty_block, 77);
     record[76] = 1;
@@ -371,7 +377,6 @@ static void guards(void) {
     record[76] = 2;
     check(counts(record, 78, WERFUND_GUARD, 70, 0), "behind a start in flash's range a lone tag 06 is fault 16 at 70");
     check(WERFUND_START == 7 && WERFUND_GUARD == 16 && WERFUND_PAST_RAM == 17, "the faults of a start by their names");
-    free(words);
 }
 
 /* Each row of the table has a text of its own, and so has WERFUND_MISUSE; no other number has one of these. */

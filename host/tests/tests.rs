@@ -355,7 +355,8 @@ fn guards(checks: &mut Checks) {
         (0x02000000, true, 0, Err((16, 70))), // a guard in flash's range
         (0x00ffffff, true, 0, Err((7, 70))), // neither,
         (0x01010000, false, 0, Err((7, 70))), // at either end of RAM,
-        (0x04000000, true, 1, Err((7, 70))), // and of flash's range
+        (0x01ffffff, true, 0, Err((7, 70))), // and of flash's range
+        (0x04000000, true, 1, Err((7, 70))),
     ];
     let mut translator = Translator::new();
     for (start, guarded, nops, expected) in blocks {
@@ -386,10 +387,11 @@ fn guards(checks: &mut Checks) {
                         && sites[0].target == behind
                         && words[20..22].contains(&0xf9401689)
                         && words[count - 2..count] == literal
+                        && words[count..].iter().all(|w| *w == BEFORE)
                 }
                 Err(_) => words == [0; 57],
             },
-            "its site leads to the address behind it, its last literal is the helper's address; or its words are 0",
+            "its site leads to the address behind it, its last literal is the helper's address, no word beyond; or its words are 0",
         );
         if let Ok(needed) = expected {
             checks.check(
