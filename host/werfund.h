@@ -36,7 +36,7 @@ extern "C" {
     X(2, WERFUND_FIELD, "a tag that is not due, or a length that is not the field's")                                \
     X(8, WERFUND_OPERATIONS, "a 33rd operation")                                                                     \
     X(9, WERFUND_BEHIND_JUMP, "an operation behind a jump")                                                          \
-    X(3, WERFUND_KIND, "an operation's kind above 44")                                                               \
+    X(3, WERFUND_KIND, "an operation's kind above 49")                                                               \
     X(4, WERFUND_OPERAND, "a flag or an operand out of range, or a group that moves more bytes than RAM or XIP has") \
     X(5, WERFUND_OFFSET, "an offset, or regs plus 60, of 16384 or more")                                             \
     X(14, WERFUND_OFFSET_UNALIGNED, "an offset that is no multiple of 4")                                            \

@@ -30,7 +30,7 @@ LENT = 16384
 AT_ONCE = 1000  # cases
 
 # The oracle's options with the change requests that have landed (tests/oracle/README.md); a request that has one of its own adds it.
-OPTIONS = ["--kinds", "44", "--split5", "--wordtest", "--guards"]
+OPTIONS = ["--kinds", "49", "--split5", "--wordtest", "--guards"]
 
 
 def public(path):

@@ -18,6 +18,12 @@ TOP = Path(__file__).resolve().parent.parent
 
 # How records become cases, what draws them, and the seeds that stand for SEED.
 ROWS = (
+    ("drawn", "blocks.py SEED 50000 --kinds 49 --guards --damaged 40", "90901 90902"),
+    ("drawn", "blocks.py SEED 50000 --kinds 49 --guards --damaged 0", "90903 90904"),
+    ("drawn", "blocks.py SEED 20000 --request 2026-09 --damaged 30", "90905"),
+    ("drawn", "blocks.py SEED 30000 --request 2026-09 --damaged 100", "90906"),
+    ("edge", "blocks.py SEED 1000 --request 2026-09 --damaged 0", "90907"),
+    ("cut", "blocks.py SEED 30 --request 2026-09 --damaged 0", "90908"),
     ("drawn", "blocks.py SEED 50000 --kinds 44 --guards --damaged 40", "60601 60602"),
     ("drawn", "blocks.py SEED 50000 --kinds 44 --guards --damaged 0", "60603 60604"),
     ("drawn", "blocks.py SEED 20000 --request 2026-06 --damaged 30", "60605"),
@@ -47,6 +53,7 @@ ROWS = (
     ("cut", "blocks.py SEED 30 --damaged 0", "edge"),
     ("drawn", "blocks.py SEED 1000", "speed"),
     ("drawn", "blocks.py SEED 1000 --kinds 44", "speed"),
+    ("drawn", "blocks.py SEED 1000 --kinds 49", "speed"),
 )
 
 

@@ -23,13 +23,16 @@ PARTS = "PartByte PartHalf PartUpper".split()
 CHOICES = "MinS MaxS MinU MaxU".split()
 UN = "Not Neg Abs Rev Clz SatS SatU".split()
 DIV = "QuoS QuoU RemS RemU".split()
+AMOUNT = "ByReg ByInc".split()
 WIDTHS = {1: "B8", 2: "B16", 4: "B32"}
 
-# how each operand of a kind is written; a letter an operand: n number, b base, f flag, w width, and the selectors
+# how each operand of a kind is written; a letter an operand: n number, b base, f flag, w width, i and inc together at i's place, and the
+# selectors
 FORMS = {0: "", 1: "nn", 2: "nn", 3: "nnn", 4: "nnn", 5: "nnn", 6: "nnno", 7: "nnno", 8: "nno", 9: "nno", 10: "nnorn", 11: "nnpf",
          12: "nnnc", 13: "nnu", 14: "nnnd", 15: "nnnn", 16: "nnn", 17: "nnnnf", 18: "nnnn", 19: "n", 20: "nn", 21: "nbnwf", 22: "nbnw",
          23: "nnnnwf", 24: "nnnnw", 25: "nnwfn", 26: "nnwn", 27: "nwmnn", 28: "", 29: "", 30: "nnqn", 31: "nnqn", 32: "nqnn", 33: "nrfnn",
-         34: "n", 35: "n", 36: "", 37: "n", 38: "n", 39: "", 40: "nnfff", 41: "n", 42: "n", 43: "nbn", 44: "nbn"}
+         34: "n", 35: "n", 36: "", 37: "n", 38: "n", 39: "", 40: "nnfff", 41: "n", 42: "n", 43: "nbn", 44: "nbn",
+         45: "nniwf ", 46: "nniw ", 47: "nnnwf", 48: "nnorn", 49: "nf"}
 TABLES = {"o": OPS, "m": RMW, "q": CONDS, "r": RK, "p": PARTS, "c": CHOICES, "u": UN, "d": DIV}
 
 # what the groups go through, to be unfolded: of the card, and of the block
@@ -58,9 +61,14 @@ def operand(form, v):
     return names[min(v, len(names) - 1)]
 
 
+def amount(i, inc):
+    return f"(ByReg {number(i)})" if i < 16 else f"(ByInc {number(inc)})"
+
+
 def operation(o, names):
     form = FORMS[o.kind]
-    fast = " ".join([names[o.kind]] + [operand(f, v) for f, v in zip(form, o.operands, strict=True)])
+    written = (amount(v, o.operands[-1]) if f == "i" else operand(f, v) for f, v in zip(form, o.operands, strict=True) if f != " ")
+    fast = " ".join([names[o.kind], *written])
     return f"op {f'({fast})' if form else fast} {number(o.length)} {flag(o.glue)}"
 
 
@@ -184,9 +192,9 @@ def walks(text):
 def uses(text, names):
     """The imports of a file's text, those that it needs."""
     found = set(re.findall(r"\b[A-Za-z0-9]+|&|\+\+", text))
-    kinds = [("Op", OPS, ""), ("RmwOp", RMW, "Rmw"), ("Cond", CONDS, ""), ("Base", ["Reg", "Sp"], ""), ("Width", list(WIDTHS.values()), ""),
-             ("Rk", RK, "Rk"), ("Part", PARTS, "Part"), ("Choice", CHOICES, ""), ("UnKind", UN, ""), ("DivKind", DIV, ""),
-             ("Fast", names, "")]
+    kinds = [("Op", OPS, ""), ("RmwOp", RMW, "Rmw"), ("Cond", CONDS, ""), ("Base", ["Reg", "Sp"], ""), ("Amount", AMOUNT, "By"),
+             ("Width", list(WIDTHS.values()), ""), ("Rk", RK, "Rk"), ("Part", PARTS, "Part"), ("Choice", CHOICES, ""), ("UnKind", UN, ""),
+             ("DivKind", DIV, ""), ("Fast", names, "")]
     variants = {"B8": "Byte as B8", "B16": "Half as B16", "B32": "Word as B32"}
     lines = []
     for kind, all_names, prefix in kinds:

@@ -29,6 +29,7 @@ ROWS = (
     ("blocks.py SEED 20000 --request 2026-04 --damaged 0", "50502"),
     ("blocks.py SEED 8000 --damaged 0", "50503"),
     ("blocks.py SEED 10000 --kinds 44 --guards --damaged 0", "60612"),
+    ("blocks.py SEED 10000 --kinds 49 --guards --damaged 0", "90914"),
 )
 
 UNLINKED = 0x14000001  # B to the next word

@@ -7,7 +7,7 @@ are those of crates/blockcases/stdin, and those of ROWS, each with the row's map
 PROGRAM's listing is taken, and:
 
   - with map flag 1 there are as many pairs of words that test address bit 0 and then bit 1 as the record has word stores of its own, counted
-    from its operations (WIDTHS, and PushRet); with flag 0 there is no pair;
+    from its operations (WIDTHS, WORDS); with flag 0 there is no pair;
   - a pair stands where the odd halfword has its test, right before the first word of a store; both words of it go where the store's range
     test goes, its slow path, and nothing goes between them or right behind them;
   - with the pairs taken out, and each distance over them, the sites and the body moved, the listing is that of `compile` as it stands in
@@ -34,11 +34,14 @@ ROWS = (
     ("pressure.py SEED 1000", "40410", 1),
     ("blocks.py SEED 10000 --request 2026-04 --damaged 0", "40411", 0),
     ("blocks.py SEED 10000 --kinds 44 --guards --damaged 0", "60611", 1),
+    ("blocks.py SEED 10000 --kinds 49 --guards --damaged 0", "90911", 1),
+    ("blocks.py SEED 10000 --request 2026-09 --damaged 0", "90912", 1),
+    ("blocks.py SEED 5000 --request 2026-09 --damaged 0", "90913", 0),
 )
 
 FLAG = 42  # where the map flag stands in a record
-WIDTHS = {22: 3, 24: 4, 26: 2, 27: 1}  # St, StIdx, StPost, Rmw: which operand is the width
-PUSH_RET = 28
+WIDTHS = {22: 3, 24: 4, 26: 2, 27: 1, 46: 3}  # St, StIdx, StPost, Rmw, StPre: which operand is the width
+WORDS = (28, 48)  # PushRet, MemA4: they store a word
 
 LITERAL = DISTANCES[-1]  # LDR (literal)
 # Mask and word without the distance or the number: the two tests, the first words of a store (RAM's base to W2 in one or two, the address
@@ -97,7 +100,7 @@ def tested_stores(record):
     found = 0
     for field in block_cases.operations(record):
         kind = field[3]
-        found += kind == PUSH_RET or kind in WIDTHS and field[6 + 4 * WIDTHS[kind]] == 4
+        found += kind in WORDS or kind in WIDTHS and field[6 + 4 * WIDTHS[kind]] == 4
     return found * record[FLAG]
 
 

@@ -267,8 +267,49 @@ static void groups(void) {
     record[30] = 4;
     record[32] = 0;
     check(counts(record, 77 + sizeof pair, WERFUND_OPERAND, 77, 0), "with a RAM of 4 bytes it is fault 4 at 77");
-    record[80] = 45;
-    check(counts(record, 77 + sizeof pair, WERFUND_KIND, 77, 0), "and kind 45 is fault 3 at 77");
+    record[80] = 50;
+    check(counts(record, 77 + sizeof pair, WERFUND_KIND, 77, 0), "and kind 50 is fault 3 at 77");
+}
+
+/* Addressing forms: each kind, with i a register and not, at the edge of its operands (2026-09). */
+static void forms(void) {
+    static const struct {
+        uint8_t kind, operands;
+        uint32_t operand[6], fault, words, sites;
+    } form[] = {
+        {45, 6, {1, 2, 15, 4, 0, 0}, 0, 80, 1},      /* LdPre by a register, */
+        {45, 6, {1, 2, 16, 4, 0, 4096}, 0, 78, 1},   /* by the increment */
+        {45, 6, {1, 2, 256, 4, 0, 4}, 4, 0, 0},      /* and by neither */
+        {46, 5, {1, 2, 15, 4, 0}, 0, 74, 1},         /* StPre */
+        {46, 5, {1, 2, 255, 2, 4}, 0, 72, 1},
+        {47, 5, {1, 2, 15, 2, 1}, 0, 86, 1},         /* LdPostR, */
+        {47, 5, {1, 2, 16, 2, 1}, 4, 0, 0},          /* whose i is a register */
+        {48, 5, {2, 8, 1, 0, 3}, 0, 96, 1},          /* MemA4 */
+        {48, 5, {2, 8, 11, 0, 3}, 4, 0, 0},
+        {49, 2, {3, 0}, 0, 76, 0},                   /* Tb jumps */
+        {49, 2, {3, 1}, 0, 80, 0},
+        {49, 2, {3, 2}, 4, 0, 0},
+        {50, 2, {3, 1}, 3, 0, 0},                    /* there is no such kind */
+    };
+    for (size_t i = 0; i < sizeof form / sizeof *form; i++) {
+        uint8_t record[77 + 6 + 24] = {0}, size = (uint8_t)(3 + 4 * form[i].operands);
+        size_t bytes = 80u + size;
+        uint32_t *words = lend(97), fault = form[i].fault, place = fault == 0 ? 0 : 77;
+        werfund_answer a;
+        memcpy(record, empty_block, 77);
+        record[77] = 5;
+        record[78] = size;
+        record[80] = form[i].kind;
+        record[81] = 2;
+        for (size_t k = 0; k < 4u * form[i].operands; k++) {
+            record[83 + k] = (uint8_t)(form[i].operand[k / 4] >> 8 * (k % 4));
+        }
+        check(werfund_translate_checked(record, bytes, words, 97, table, &a) == fault && a.place == place, "a form");
+        check(fault == 0 ? a.words == form[i].words && a.sites == form[i].sites && all(words, a.words, 97, BEFORE) : all(words, 0, 97, 0),
+              "its words and sites, no word beyond; or its words are 0");
+        check(counts(record, bytes, fault, place, form[i].words), "a form, counted");
+        free(words);
+    }
 }
 
 /* Layouts of the processor record: the whole of one is tested for 5, then for 14, then for 15 (2026-03). */
@@ -578,6 +619,7 @@ int main(int argc, char **argv) {
     needs();
     two_sites();
     groups();
+    forms();
     layouts();
     guards();
     texts();

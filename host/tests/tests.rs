@@ -281,11 +281,53 @@ fn groups(checks: &mut Checks) {
         translator.words_needed(&pair) == Err(fault(4, 77)),
         "with a RAM of 4 bytes it is fault 4 at 77",
     );
-    pair[80] = 45;
+    pair[80] = 50;
     checks.check(
         translator.words_needed(&pair) == Err(fault(3, 77)),
-        "and kind 45 is fault 3 at 77",
+        "and kind 50 is fault 3 at 77",
     );
+}
+
+/// Addressing forms: each kind, with i a register and not, at the edge of its operands (2026-09).
+fn forms(checks: &mut Checks) {
+    let forms: [(u8, &[u32], Result<(usize, usize), u32>); 13] = [
+        (45, &[1, 2, 15, 4, 0, 0], Ok((80, 1))), // LdPre by a register,
+        (45, &[1, 2, 16, 4, 0, 4096], Ok((78, 1))), // by the increment
+        (45, &[1, 2, 256, 4, 0, 4], Err(4)),     // and by neither
+        (46, &[1, 2, 15, 4, 0], Ok((74, 1))),    // StPre
+        (46, &[1, 2, 255, 2, 4], Ok((72, 1))),
+        (47, &[1, 2, 15, 2, 1], Ok((86, 1))), // LdPostR,
+        (47, &[1, 2, 16, 2, 1], Err(4)),      // whose i is a register
+        (48, &[2, 8, 1, 0, 3], Ok((96, 1))),  // MemA4
+        (48, &[2, 8, 11, 0, 3], Err(4)),
+        (49, &[3, 0], Ok((76, 0))), // Tb jumps
+        (49, &[3, 1], Ok((80, 0))),
+        (49, &[3, 2], Err(4)),
+        (50, &[3, 1], Err(3)), // there is no such kind
+    ];
+    let mut translator = Translator::new();
+    for (kind, operands, expected) in forms {
+        let mut record = block(0x02000000, 0);
+        record.extend(operation(kind, operands));
+        let expected = expected.map_err(|number| fault(number, 77));
+        let mut words = [BEFORE; 97];
+        let answer = translator.translate(&record, &mut words).map(|block| {
+            let (count, _, sites) = parts(block);
+            (count, sites.len())
+        });
+        checks.check(answer == expected, "a form");
+        checks.check(
+            match answer {
+                Ok((count, _)) => words[count..].iter().all(|w| *w == BEFORE),
+                Err(_) => words == [0; 97],
+            },
+            "no word beyond, or its words are 0",
+        );
+        checks.check(
+            translator.words_needed(&record) == expected.map(|(count, _)| count),
+            "a form, counted",
+        );
+    }
 }
 
 /// Layouts of the processor record: the whole of one is tested for 5, then for 14, then for 15 (2026-03).
@@ -505,6 +547,7 @@ fn main() -> ExitCode {
     boundary(&mut checks);
     two_sites(&mut checks);
     groups(&mut checks);
+    forms(&mut checks);
     layouts(&mut checks);
     guards(&mut checks);
     texts(&mut checks);

@@ -13,6 +13,8 @@ pub use Rattle.block.specs.declared.Cond.{Cond}
 pub use Rattle.block.specs.declared.Cond.the-variants.{Eq, Ne, LtU, GtU, LeU, GeU, LtS, GtS, LeS, GeS}
 pub use Rattle.block.specs.declared.Base.{Base}
 pub use Rattle.block.specs.declared.Base.the-variants.{Reg, Sp}
+pub use Rattle.block.specs.declared.Amount.{Amount}
+pub use Rattle.block.specs.declared.Amount.the-variants.{Reg as ByReg, Inc as ByInc}
 pub use Rattle.block.specs.declared.Width.{Width}
 pub use Rattle.block.specs.declared.Width.the-variants.{Byte as B8, Half as B16, Word as B32}
 pub use Rattle.block.specs.declared.Rk.{Rk}
@@ -30,6 +32,7 @@ pub use Rattle.block.specs.declared.Fast.the-variants.{Nop, MovI, Mov, A
 pub use Rattle.block.specs.declared.Fast.the-variants.{Un, Div, Mov2, Mov2I, BitExt, BitIns, SpAdd, RFromSp, Ld, St, LdIdx, StIdx}
 pub use Rattle.block.specs.declared.Fast.the-variants.{LdPost, StPost, Rmw, PushRet, PopRets, BrI, BrR, DecBr, BitBr, Goto, Call}
 pub use Rattle.block.specs.declared.Fast.the-variants.{Rts, GotoR, CallR, PopRet, BlockMove, PushRets, PopPc, LdPair, StPair}
+pub use Rattle.block.specs.declared.Fast.the-variants.{LdPre, StPre, LdPostR, MemA4, Tb}
 pub use Rattle.block.specs.declared.BOp.{BOp}
 pub use Rattle.block.specs.declared.Layout.{Layout}
 pub use Rattle.block.specs.declared.Memory.{Memory}
@@ -108,14 +111,19 @@ kindOf (PushRets n) = 41
 kindOf (PopPc n) = 42
 kindOf (LdPair p b off) = 43
 kindOf (StPair p b off) = 44
+kindOf (LdPre d b by w signed) = 45
+kindOf (StPre s b by w) = 46
+kindOf (LdPostR d b i w signed) = 47
+kindOf (MemA4 b off op rk rv) = 48
+kindOf (Tb r half) = 49
 
--- kinds 30 to 39 jump, and 42
+-- kinds 30 to 39 jump, and 42 and 49
 abbrev pub jumping : ℕ → Bool
-jumping k = (leb 30 k && ltb k 40) || eqb k 42
+jumping k = (leb 30 k && ltb k 40) || (eqb k 42 || eqb k 49)
 
--- kinds 21 to 29, 40, 41, 43 and 44 use the bus, and each is followed by a break check
+-- kinds 21 to 29, 40, 41 and 43 to 48 use the bus, and each is followed by a break check
 abbrev pub onBus : ℕ → Bool
-onBus k = (leb 21 k && ltb k 30) || (leb 40 k && (ltb k 45 && not (eqb k 42)))
+onBus k = (leb 21 k && ltb k 30) || (leb 40 k && (ltb k 49 && not (eqb k 42)))
 
 abbrev pub mayJump : Fast → Bool
 mayJump f = jumping (kindOf f)
@@ -202,3 +210,8 @@ moved (PushRets n) = suc (length (saved n))
 moved (PopPc n) = suc (length (saved n))
 moved (LdPair p b off) = length (pairOf p)
 moved (StPair p b off) = length (pairOf p)
+moved (LdPre d b by w signed) = 0
+moved (StPre s b by w) = 0
+moved (LdPostR d b i w signed) = 0
+moved (MemA4 b off op rk rv) = 0
+moved (Tb r half) = 0

@@ -6,12 +6,12 @@ use mathlib.Core.List.{List, [], _∷_}
 use mathlib.Core.Logic.{_⊎_}
 use Prim.Native.Nat.{ℕ, _+_, _*_, _%_, _<_, _≤_}
 use lib.ListN.{length}
-use Rattle.block.specs.Block.{Base, Reg, Sp, Fast, BOp, Layout, Memory, Addresses, Guard, Block, opsOf, mayJump}
+use Rattle.block.specs.Block.{Base, Reg, Sp, Amount, ByReg, ByInc, Fast, BOp, Layout, Memory, Addresses, Guard, Block, opsOf, mayJump}
 use Rattle.block.specs.Block.{moved, lengths, inFlash}
 use Rattle.block.specs.Block.{Nop, MovI, Mov, AddRI, ShlI, SarI, Alu3, Alu3I, Alu2, Alu2I, A4, Ext, MinMax, Un, Div, Mov2, Mov2I}
 use Rattle.block.specs.Block.{BitExt, BitIns, SpAdd, RFromSp}
 use Rattle.block.specs.Block.{Ld, St, LdIdx, StIdx, LdPost, StPost, Rmw, PushRet, PopRets, BrI, BrR, DecBr, BitBr, Goto, Call, Rts}
-use Rattle.block.specs.Block.{GotoR, CallR, PopRet, BlockMove, PushRets, PopPc, LdPair, StPair}
+use Rattle.block.specs.Block.{GotoR, CallR, PopRet, BlockMove, PushRets, PopPc, LdPair, StPair, LdPre, StPre, LdPostR, MemA4, Tb}
 
 -- ---- operands
 
@@ -35,6 +35,11 @@ Bits32 v = v < 4294967296
 abbrev pub BaseFits : Base → Type 0
 BaseFits (Reg r) = Register r
 BaseFits Sp = Unit {0}
+
+-- a register, or an increment
+abbrev pub AmountFits : Amount → Type 0
+AmountFits (ByReg r) = Register r
+AmountFits (ByInc v) = Bits32 v
 
 -- the operands of a kind that are numbers; selectors and flags are in range by their types
 abbrev pub FastFits : Fast → Type 0
@@ -83,6 +88,11 @@ FastFits (PushRets n) = n < 16
 FastFits (PopPc n) = n < 16
 FastFits (LdPair p b off) = Byte p × BaseFits b × Bits32 off
 FastFits (StPair p b off) = Byte p × BaseFits b × Bits32 off
+FastFits (LdPre d b by w signed) = Register d × Register b × AmountFits by
+FastFits (StPre s b by w) = Register s × Register b × AmountFits by
+FastFits (LdPostR d b i w signed) = Register d × Register b × Register i
+FastFits (MemA4 b off op rk rv) = Register b × Bits32 off × Bits32 rv
+FastFits (Tb r half) = Register r
 
 -- an operation: its operands, and a guest length of 0 to 255 bytes
 pub record BOpFits (o : BOp) : Type 0 where

@@ -49,6 +49,12 @@ pub enum Base {
     Sp,
 }
 
+// i and inc of LdPre and StPre: register i, or with an i of 16 to 255 the increment
+pub enum Amount {
+    Reg(u8),
+    Inc(u32),
+}
+
 // w: 1, 2 or 4 bytes
 pub enum Width {
     Byte,
@@ -318,6 +324,37 @@ pub enum Fast {
         b: Base,
         off: u32,
     },
+    LdPre {
+        d: u8,
+        b: u8,
+        by: Amount,
+        w: Width,
+        signed: bool,
+    },
+    StPre {
+        s: u8,
+        b: u8,
+        by: Amount,
+        w: Width,
+    },
+    LdPostR {
+        d: u8,
+        b: u8,
+        i: u8,
+        w: Width,
+        signed: bool,
+    },
+    MemA4 {
+        b: u8,
+        off: u32,
+        op: Op,
+        rk: Rk,
+        rv: u32,
+    },
+    Tb {
+        r: u8,
+        half: bool,
+    },
 }
 
 // An operation of a block: its guest length in bytes, and whether it is glued to the next one.
@@ -369,18 +406,18 @@ pub struct Block {
     pub n: u32,
 }
 
-// The kinds that jump, by number: 30 to 39, and PopPc.
+// The kinds that jump, by number: 30 to 39, PopPc and Tb.
 pub fn jumps(kind: u8) -> bool
     ensures { λ r. ⌜ r ≡ jumping kind ⌝ }
 {
-    ((30 <= kind) & (kind < 40)) | (kind == 42)
+    ((30 <= kind) & (kind < 40)) | ((kind == 42) | (kind == 49))
 }
 
-// The kinds that use the bus: 21 to 29, and the groups but PopPc.
+// The kinds that use the bus: 21 to 29, the groups but PopPc, and the forms of 2026-09 but Tb.
 pub fn on_bus(kind: u8) -> bool
     ensures { λ r. ⌜ r ≡ onBus kind ⌝ }
 {
-    ((21 <= kind) & (kind < 30)) | ((40 <= kind) & ((kind < 45) & (kind != 42)))
+    ((21 <= kind) & (kind < 30)) | ((40 <= kind) & ((kind < 49) & (kind != 42)))
 }
 
 // A flash block starts in flash's range, whatever field 02 says; any other block is a RAM block.

@@ -12,6 +12,7 @@ use lib.ListN.{length, length-take}
 use Rattle.arm.specs.Decode.{both}
 use Rattle.arm.proofs.Pieces.{both-left, both-right}
 use Rattle.block.specs.declared.Base.the-variants.{Reg, Sp}
+use Rattle.block.specs.declared.Amount.the-variants.{Reg as ByReg, Inc as ByInc}
 use Rattle.block.specs.declared.RmwOp.the-variants.{Or as RmwOr, And as RmwAnd, Xor as RmwXor, Add as RmwAdd, Sub as RmwSub, Mov as RmwMov}
 use Rattle.block.specs.declared.Rk.the-variants.{Reg as RkReg, Imm as RkImm, Bit as RkBit}
 use Rattle.block.specs.declared.UnKind.the-variants.{Not, Neg, Abs, Rev, Clz, SatS, SatU}
@@ -20,7 +21,7 @@ use Rattle.block.specs.declared.Fast.{Fast}
 use Rattle.block.specs.declared.Fast.the-variants.{Nop, MovI, Mov, AddRI, ShlI, SarI, Alu3, Alu3I, Alu2, Alu2I, A4, Ext, MinMax, Un, Div}
 use Rattle.block.specs.declared.Fast.the-variants.{Mov2, Mov2I, BitExt, BitIns, SpAdd, RFromSp, Ld, St, LdIdx, StIdx, LdPost, StPost, Rmw}
 use Rattle.block.specs.declared.Fast.the-variants.{PushRet, PopRets, BrI, BrR, DecBr, BitBr, Goto, Call, Rts, GotoR, CallR, PopRet}
-use Rattle.block.specs.declared.Fast.the-variants.{BlockMove, PushRets, PopPc, LdPair, StPair}
+use Rattle.block.specs.declared.Fast.the-variants.{BlockMove, PushRets, PopPc, LdPair, StPair, LdPre, StPre, LdPostR, MemA4, Tb}
 use Rattle.block.specs.declared.BOp.{BOp}
 use Rattle.block.specs.declared.Block.{Block}
 use Rattle.block.specs.Block.{opsOf, mayJump, usesBus, inFlash, members, span, saved}
@@ -170,6 +171,15 @@ few (LdPair p (Reg r) o) i next = counted tt
 few (LdPair p Sp o) i next = counted tt
 few (StPair p (Reg r) o) i next = counted tt
 few (StPair p Sp o) i next = counted tt
+few (LdPre d r (ByReg x) w signed) i next = counted tt
+few (LdPre d r (ByInc v) w signed) i next = counted tt
+few (StPre s r (ByReg x) w) i next = counted tt
+few (StPre s r (ByInc v) w) i next = counted tt
+few (LdPostR d r x w signed) i next = counted tt
+few (MemA4 r o op RkReg rv) i next = counted tt
+few (MemA4 r o op RkImm rv) i next = counted tt
+few (MemA4 r o op RkBit rv) i next = counted tt
+few (Tb r half) i next = counted tt
 
 -- ---- the operations of a block
 abbrev opCost : Cost

@@ -13,6 +13,8 @@ use Rattle.block.specs.declared.RmwOp.{RmwOp}
 use Rattle.block.specs.declared.RmwOp.the-variants.{Or as RmwOr, And as RmwAnd, Xor as RmwXor, Add as RmwAdd, Sub as RmwSub, Mov as RmwMov}
 use Rattle.block.specs.declared.Base.{Base}
 use Rattle.block.specs.declared.Base.the-variants.{Reg, Sp}
+use Rattle.block.specs.declared.Amount.{Amount}
+use Rattle.block.specs.declared.Amount.the-variants.{Reg as ByReg, Inc as ByInc}
 use Rattle.block.specs.declared.Width.{Width}
 use Rattle.block.specs.declared.Rk.{Rk}
 use Rattle.block.specs.declared.Rk.the-variants.{Reg as RkReg, Imm as RkImm, Bit as RkBit}
@@ -30,15 +32,15 @@ use Rattle.block.specs.declared.Fast.{Fast}
 use Rattle.block.specs.declared.Fast.the-variants.{Nop, MovI, Mov, AddRI, ShlI, SarI, Alu3, Alu3I, Alu2, Alu2I, A4, Ext, MinMax, Un, Div}
 use Rattle.block.specs.declared.Fast.the-variants.{Mov2, Mov2I, BitExt, BitIns, SpAdd, RFromSp, Ld, St, LdIdx, StIdx, LdPost, StPost, Rmw}
 use Rattle.block.specs.declared.Fast.the-variants.{PushRet, PopRets, BrI, BrR, DecBr, BitBr, Goto, Call, Rts, GotoR, CallR, PopRet}
-use Rattle.block.specs.declared.Fast.the-variants.{BlockMove, PushRets, PopPc, LdPair, StPair}
+use Rattle.block.specs.declared.Fast.the-variants.{BlockMove, PushRets, PopPc, LdPair, StPair, LdPre, StPre, LdPostR, MemA4, Tb}
 use Rattle.block.specs.declared.BOp.{BOp}
 use Rattle.block.specs.Block.{usesBus, members, span, saved, pairOf}
 use Rattle.block.proofs.Groups.{Registers, members-in, members-few, saved-in, pair-in, reverse-in}
-use Rattle.block.specs.Checked.{FastFits, BOpFits, BaseFits}
+use Rattle.block.specs.Checked.{FastFits, BOpFits, BaseFits, AmountFits}
 use Rattle.code.specs.Items.{pick}
 use Rattle.lowering.specs.Instrs.{NE, EQ, sbfx, ubfx, lslI, lsrI, asrI, addLsl, csel}
 use Rattle.lowering.specs.Steps.{Step, lowered, opSteps, alu, acond, choice, ext, rhs, base, un, div, low, ones, hole, sign, rmwValue}
-use Rattle.lowering.specs.Steps.{moveWord, moveWords, moveBase, pushAll, popAll}
+use Rattle.lowering.specs.Steps.{advance, moveWord, moveWords, moveBase, pushAll, popAll}
 use Rattle.lowering.proofs.Groups.{offset-lt}
 use Rattle.arm.specs.Decode.{carried}
 use Rattle.arm.proofs.RoundTrip.{carried-true}
@@ -113,6 +115,10 @@ rhs-fits RkBit v h = ((tt, mod-lt v (omega arith)), (tt, (tt, tt)))
 base-fits : (x : Base) → BaseFits x → StepFits (base x)
 base-fits (Reg r) h = (tt, h)
 base-fits Sp h = tt
+
+advance-fits : (x : Amount) → AmountFits x → AllFit (advance x)
+advance-fits (ByReg r) h = ((tt, h), (tt, tt))
+advance-fits (ByInc v) h = ((tt, tt, h), tt)
 
 un-fits : (k : UnKind) → AllFit (un k)
 un-fits Not = (tt, tt)
@@ -259,6 +265,14 @@ module _ (i next : ℕ) (hi : i < 32) (hn : next < 4294967296) where
       (tt, (pos-lt, (tt, (tt, (tt, (tt, ((tt, count-lt), tt)))))))
   kind-fits (LdPair p r o) h = (base-fits r (h .1), ((tt, tt, h .2), moves-fit i pos-lt false 0 (pairOf p) (omega arith) (pair-in p)))
   kind-fits (StPair p r o) h = (base-fits r (h .1), ((tt, tt, h .2), moves-fit i pos-lt true 0 (pairOf p) (omega arith) (pair-in p)))
+  kind-fits (LdPre d r x w signed) h =
+      ((tt, h .1), fit-append (advance x) _ (advance-fits x (h .2)) ((tt, h .1), (pos-lt, ((tt, h .0), tt))))
+  kind-fits (StPre s r x w) h = ((tt, h .1), fit-append (advance x) _ (advance-fits x (h .2)) ((tt, h .1), ((tt, h .0), (pos-lt, tt))))
+  kind-fits (LdPostR d r x w signed) h = ((tt, h .2), ((tt, h .1), (pos-lt, ((tt, h .0), ((tt, h .1), (tt, ((tt, h .1), tt)))))))
+  kind-fits (MemA4 r o op rk rv) h =
+      fit-append (rhs rk rv) _ (rhs-fits rk rv (h .2))
+      (tt, ((tt, h .0), ((tt, tt, h .1), (tt, (pos-lt, (tt, (alu-fits op, (tt, (tt, (pos-lt, tt))))))))))
+  kind-fits (Tb r half) h = ((tt, h), ((tt, tt, hn), (pos-lt, (tt, ((tt, tt, hn), ((tt, count-lt), tt))))))
 
   check-fits : (glue : Bool) → StepFits (Step.checkBrk glue next (i + 1))
   check-fits glue = (hn, count-lt)

@@ -1,5 +1,5 @@
 -- The starred lines hold, and blocks computed: a load at RAM's last offset, then a load from outside whose outcome sets the break word; one
--- group each; unaligned words stored; and the guard of a RAM block.
+-- group each; one form of 2026-09 each; unaligned words stored; and the guard of a RAM block.
 use mathlib.Core.Bool.{Bool, true, false, not, _&&_}
 use mathlib.Core.List.{List, [], _∷_}
 use mathlib.Core.Path.{_≡_, refl}
@@ -7,11 +7,12 @@ use Prim.Native.Nat.{ℕ}
 use lib.ListN.{length}
 use Rattle.block.specs.Block.{noGuard, places, upFrom}
 use Rattle.card.specs.Kinds.{Fast, Ld, St, LdPost, Rmw, PushRet, BlockMove, PushRets, PopPc, LdPair, StPair, BOp}
-use Rattle.card.specs.Kinds.{Reg, Sp, B8, B32, RmwAdd, RmwMov, Memory, Block}
+use Rattle.card.specs.Kinds.{LdPre, StPre, LdPostR, MemA4, Tb, Reg, Sp, ByReg, ByInc, B8, B16, B32, Add, Sub, RkReg, RkImm, RkBit}
+use Rattle.card.specs.Kinds.{RmwAdd, RmwMov, Memory, Block}
 use Rattle.card.specs.Word.{minus, signedOf, signExtend}
 use Rattle.card.specs.Card.{Card, Outcome, Request, read, write, guard}
 use Rattle.card.specs.Memory.{readLE, writeLE, inside, load, holdsCode, direct, store}
-use Rattle.card.specs.Step.{exits, chains, loadAll, storeAll, pushAll, popAll, opStep}
+use Rattle.card.specs.Step.{exits, chains, looksUp, loadAll, storeAll, pushAll, popAll, opStep}
 use Rattle.card.specs.Starred.{starred}
 use Rattle.card.specs.Run.{End, left, stopped, opsFrom, run}
 
@@ -151,6 +152,71 @@ pub pair-stored
 unfolding run opsFrom opStep storeAll store direct writeLE
 pair-stored = refl
 
+-- ---- 2026-09, likewise
+-- the base goes up by r2 before the load, so that with d = b what is loaded stays
+pub target-wins
+    : after (LdPre 1 1 (ByReg 2) B32 false) (cardOf 0x1000 4 0 0 0 7 ram 0 0 10 [] [])
+    ≡ left (chains 0) (cardOf 0x08070605 4 0 0 0 7 ram 0 0x2000004 11 [] [])
+unfolding run opsFrom opStep load readLE
+target-wins = refl
+
+-- outside: the request has the new base, which is written though the break leaves
+pub base-up
+    : after (LdPre 3 1 (ByInc 0x8000) B8 true) (cardOf 0x1004 0 0 0 0 7 ram 0 0 10 [] (answered 0x80 1 ∷ []))
+    ≡ left exits (cardOf 0x9004 0 0xffffff80 0 0 1 ram 1 0x2000004 11 (read 0x9004 1 10 ∷ []) [])
+unfolding run opsFrom opStep load signExtend
+base-up = refl
+
+-- with s = b the new base is stored
+pub new-base-stored
+    : after (StPre 1 1 (ByReg 2) B32) (cardOf 0xffc 4 0 0 0 7 ram 0 0 10 [] [])
+    ≡ left (chains 0) (cardOf 0x1000 4 0 0 0 7 (0 ∷ 0x10 ∷ 0 ∷ 0 ∷ 5 ∷ 6 ∷ 7 ∷ 8 ∷ []) 0 0x2000004 11 [] [])
+unfolding run opsFrom opStep store direct writeLE
+new-base-stored = refl
+
+-- the index is d: the base goes up by what it was before the load
+pub index-before
+    : after (LdPostR 2 1 2 B8 false) (cardOf 0x1004 3 0 0 0 7 ram 0 0 10 [] [])
+    ≡ left (chains 0) (cardOf 0x1007 5 0 0 0 7 ram 0 0x2000004 11 [] [])
+unfolding run opsFrom opStep load readLE
+index-before = refl
+
+-- with d = b the index is added to what is loaded, as LdPost's increment is
+pub index-to-target
+    : after (LdPostR 1 1 2 B8 false) (cardOf 0x1004 3 0 0 0 7 ram 0 0 10 [] [])
+    ≡ left (chains 0) (cardOf 8 3 0 0 0 7 ram 0 0x2000004 11 [] [])
+unfolding run opsFrom opStep load readLE
+index-to-target = refl
+
+-- memory is the left operand
+pub memory-left
+    : after (MemA4 1 4 Sub RkReg 2) (cardOf 0x1000 5 0 0 0 7 ram 0 0 10 [] [])
+    ≡ left (chains 0) (cardOf 0x1000 5 0 0 0 7 (1 ∷ 2 ∷ 3 ∷ 4 ∷ 0 ∷ 6 ∷ 7 ∷ 8 ∷ []) 0 0x2000004 11 [] [])
+unfolding run opsFrom opStep load store direct readLE writeLE
+memory-left = refl
+
+-- a bit by its register, outside: read, then written at one address; the break word that the first outcome sets and the second clears does
+-- not leave
+pub bit-added
+    : after (MemA4 1 0 Add RkBit 2) (cardOf 0x9000 4 0 0 0 7 ram 0 0 10 [] (answered 0x33 1 ∷ answered 0 0 ∷ []))
+    ≡ left (chains 0) (cardOf 0x9000 4 0 0 0 7 ram 0 0x2000004 11 (read 0x9000 4 10 ∷ write 0x9000 4 10 0x43 ∷ []) [])
+unfolding run opsFrom opStep load store direct
+bit-added = refl
+
+-- byte 0x80 of the table, unsigned: twice it and the address behind, for which the break leaves with hold as it was
+pub place-unsigned
+    : after (Tb 1 false) (cardOf 0x9000 0 0 0 0 7 ram 0 0 10 [] (answered 0x80 1 ∷ []))
+    ≡ left exits (cardOf 0x9000 0 0 0 0 7 ram 1 0x2000104 11 (read 0x2009004 1 10 ∷ []) [])
+unfolding run opsFrom opStep load
+place-unsigned = refl
+
+-- an odd halfword of RAM: at the even place
+pub odd-place
+    : after (Tb 1 true) (cardOf 0xfe000fff 0 0 0 0 7 ram 0 0 10 [] [])
+    ≡ left looksUp (cardOf 0xfe000fff 0 0 0 0 7 ram 0 0x200080a 11 [] [])
+unfolding run opsFrom opStep load readLE
+odd-place = refl
+
 -- ---- 2026-04: a word stored at 0x1001 or 0x1002, with code in the second group of 4 bytes, into which it reaches
 abbrev mapped : (r1 sp : ℕ) → (ram : List ℕ) → (pc done : ℕ) → List Request → List Outcome → Card
 mapped r1 s bytes pc done qs os =
@@ -199,6 +265,15 @@ modified-asks = refl
 pub moved-asks : stored true (Rmw 1 B32 RmwMov 0 0x10) 0 (leaves ram ∷ []) ≡ ends 0 ram (write 0x1001 4 10 0x10 ∷ [])
 unfolding run opsFrom opStep store direct readLE
 moved-asks = refl
+
+-- so do those of 2026-09
+pub advanced-asks : stored true (StPre 2 1 (ByInc 0) B32) 0 (leaves ram ∷ []) ≡ ends 0 ram (write 0x1001 4 10 0x11223344 ∷ [])
+unfolding run opsFrom opStep store direct readLE
+advanced-asks = refl
+
+pub combined-asks : stored true (MemA4 1 0 Add RkImm 0x10) 0 (leaves ram ∷ []) ≡ ends 0 ram (write 0x1001 4 10 0x05040312 ∷ [])
+unfolding run opsFrom opStep load store direct readLE
+combined-asks = refl
 
 pub ret-asks : stored true PushRet 0x1005 (leaves ram ∷ []) ≡ ends 0x1001 ram (write 0x1001 4 10 9 ∷ [])
 unfolding run opsFrom opStep store direct readLE

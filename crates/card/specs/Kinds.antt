@@ -8,6 +8,8 @@ pub use Rattle.block.specs.declared.Cond.{Cond}
 pub use Rattle.block.specs.declared.Cond.the-variants.{Eq, Ne, LtU, GtU, LeU, GeU, LtS, GtS, LeS, GeS}
 pub use Rattle.block.specs.declared.Base.{Base}
 pub use Rattle.block.specs.declared.Base.the-variants.{Reg, Sp}
+pub use Rattle.block.specs.declared.Amount.{Amount}
+pub use Rattle.block.specs.declared.Amount.the-variants.{Reg as ByReg, Inc as ByInc}
 pub use Rattle.block.specs.declared.Width.{Width}
 pub use Rattle.block.specs.declared.Width.the-variants.{Byte as B8, Half as B16, Word as B32}
 pub use Rattle.block.specs.declared.Rk.{Rk}
@@ -24,7 +26,8 @@ pub use Rattle.block.specs.declared.Fast.{Fast}
 pub use Rattle.block.specs.declared.Fast.the-variants.{Nop, MovI, Mov, AddRI, ShlI, SarI, Alu3, Alu3I, Alu2, Alu2I, A4, Ext, MinMax, Un}
 pub use Rattle.block.specs.declared.Fast.the-variants.{Div, Mov2, Mov2I, BitExt, BitIns, SpAdd, RFromSp, Ld, St, LdIdx, StIdx, LdPost}
 pub use Rattle.block.specs.declared.Fast.the-variants.{StPost, Rmw, PushRet, PopRets, BrI, BrR, DecBr, BitBr, Goto, Call, Rts, GotoR}
-pub use Rattle.block.specs.declared.Fast.the-variants.{CallR, PopRet, BlockMove, PushRets, PopPc, LdPair, StPair}
+pub use Rattle.block.specs.declared.Fast.the-variants.{CallR, PopRet, BlockMove, PushRets, PopPc, LdPair, StPair, LdPre}
+pub use Rattle.block.specs.declared.Fast.the-variants.{StPre, LdPostR, MemA4, Tb}
 pub use Rattle.block.specs.declared.BOp.{BOp}
 pub use Rattle.block.specs.declared.Layout.{Layout}
 pub use Rattle.block.specs.declared.Memory.{Memory}

@@ -5,11 +5,11 @@ use Prim.Native.Nat.{ℕ, suc, _-_, _*_, _^_}
 use lib.Bits.{bitAnd, bitOr, bitXor}
 use lib.Dec.{eqb}
 use Rattle.block.specs.Block.{members, span, saved, pairOf}
-use Rattle.card.specs.Kinds.{RmwOp, RmwOr, RmwAnd, RmwXor, RmwAdd, RmwSub, RmwMov, Eq, Ne, Width, B32, Memory}
+use Rattle.card.specs.Kinds.{RmwOp, RmwOr, RmwAnd, RmwXor, RmwAdd, RmwSub, RmwMov, Eq, Ne, Amount, ByReg, ByInc, Width, B8, B16, B32}
 use Rattle.card.specs.Kinds.{Fast, Nop, MovI, Mov, AddRI, ShlI, SarI, Alu3, Alu3I, Alu2, Alu2I, A4, Ext, MinMax, Un, Div, Mov2}
 use Rattle.card.specs.Kinds.{Mov2I, BitExt, BitIns, SpAdd, RFromSp, Ld, St, LdIdx, StIdx, LdPost, StPost, Rmw, PushRet, PopRets}
 use Rattle.card.specs.Kinds.{BrI, BrR, DecBr, BitBr, Goto, Call, Rts, GotoR, CallR, PopRet, BlockMove, PushRets, PopPc, LdPair}
-use Rattle.card.specs.Kinds.{StPair}
+use Rattle.card.specs.Kinds.{StPair, LdPre, StPre, LdPostR, MemA4, Tb, Memory}
 use Rattle.card.specs.Word.{plus, minus, bit, shl, sar, alu, ext, holds, minMax, un, div, bitExt, bitIns}
 use Rattle.card.specs.Card.{Card, reg, baseOf, rhs, setReg, setSp, setRets, arrive, addReg, addSp}
 use Rattle.card.specs.Memory.{Access, got, unmet, load, store}
@@ -51,7 +51,7 @@ ind i target c = out looksUp (arrive target (suc i) c)
 abbrev pub indBrk : (i target : ℕ) → Card → After
 indBrk i target c = cond (eqb (c .brk) 0) (ind i target c) (out exits (arrive target (suc i) c))
 
--- kind 27: w bytes are loaded, zero-extended, and f of them is stored
+-- kinds 27 and 48: w bytes are loaded, zero-extended, and f of them is stored
 abbrev pub modify : Memory → (flash : List ℕ) → (i : ℕ) → Width → (address : ℕ) → (ℕ → ℕ) → Card → After
 modify m flash i w a f c = withLoaded (load m flash i w false a c) (λ x c₁. withStored (store m i w true a (f x) c₁) (λ c₂. on c₂))
 
@@ -108,6 +108,12 @@ unfoldable pub popAll : Memory → (flash : List ℕ) → (i : ℕ) → List ℕ
 popAll m flash i [] c f = f c
 popAll m flash i (r ∷ rs) c f = pop m flash i c (λ v c₁. popAll m flash i rs (addSp 4 (setReg r v c₁)) f)
 
+-- ---- addressing forms of 2026-09
+-- by how much a base goes up
+abbrev pub amount : Card → Amount → ℕ
+amount c (ByReg r) = reg c r
+amount c (ByInc v) = v
+
 -- operation number i of a block, with the guest address behind it
 unfoldable pub opStep : Memory → (flash : List ℕ) → (i next : ℕ) → Fast → Card → After
 opStep m flash i next Nop c = on c
@@ -162,3 +168,18 @@ opStep m flash i next (PopPc n) c = popAll m flash i (saved n) c (λ c₁. pop m
 -- the address stays as it was before the first load
 opStep m flash i next (LdPair p b off) c = loadAll m flash i (plus (baseOf c b) off) 0 (pairOf p) c (λ c₁. on c₁)
 opStep m flash i next (StPair p b off) c = storeAll m i (plus (baseOf c b) off) 0 (pairOf p) c (λ c₁. on c₁)
+-- "LdPre writes the base before the load, so d wins where d = b."
+opStep m flash i next (LdPre d b by w signed) c =
+    let x : ℕ = plus (reg c b) (amount c by) in withLoaded (load m flash i w signed x (setReg b x c)) (λ v c₁. on (setReg d v c₁))
+-- the base is written before s is read: with s = b the new base is stored
+opStep m flash i next (StPre s b by w) c =
+    let x : ℕ = plus (reg c b) (amount c by) in
+    let c₁ : Card = setReg b x c in withStored (store m i w true x (reg c₁ s) c₁) (λ c₂. on c₂)
+-- "LdPostR adds the index as it was before the load."
+opStep m flash i next (LdPostR d b x w signed) c =
+    withLoaded (load m flash i w signed (reg c b) c) (λ v c₁. on (addReg b (reg c x) (setReg d v c₁)))
+-- memory is the left operand, the right side is read first
+opStep m flash i next (MemA4 b off op rk rv) c = modify m flash i B32 (plus (reg c b) off) (λ x. alu op x (rhs c rk rv)) c
+-- "Tb reads a byte or halfword and jumps with the break check."
+opStep m flash i next (Tb r half) c =
+    withLoaded (load m flash i (cond half B16 B8) false (plus (reg c r) next) c) (λ v c₁. indBrk i (plus (shl v 1) next) c₁)

@@ -10,5 +10,10 @@ pub mod Pushes
 pub mod Pops
 pub mod PairLoads
 pub mod PairStores
+pub mod PreLoads
+pub mod PreStores
+pub mod PostLoads
+pub mod MemoryWords
+pub mod TableJumps
 pub mod Guards
 pub mod Whole

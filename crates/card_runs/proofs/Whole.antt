@@ -2,21 +2,23 @@
 use mathlib.Core.Bool.{true, false}
 use mathlib.Core.List.{List, [], _∷_}
 use mathlib.Core.Path.{_≡_, refl}
-use Rattle.block.specs.declared.Op.the-variants.{Add, Sub, RSub, Xor}
+use Rattle.block.specs.declared.Op.the-variants.{Add, Sub, RSub, AndNot, Or, Xor, Sar}
 use Rattle.block.specs.declared.RmwOp.the-variants.{Or as RmwOr, Add as RmwAdd, Sub as RmwSub, Mov as RmwMov}
 use Rattle.block.specs.declared.Cond.the-variants.{GtU, GtS, LeS}
 use Rattle.block.specs.declared.Base.the-variants.{Reg, Sp}
+use Rattle.block.specs.declared.Amount.the-variants.{Reg as ByReg, Inc as ByInc}
 use Rattle.block.specs.declared.Width.the-variants.{Byte as B8, Half as B16, Word as B32}
-use Rattle.block.specs.declared.Rk.the-variants.{Reg as RkReg, Bit as RkBit}
+use Rattle.block.specs.declared.Rk.the-variants.{Reg as RkReg, Imm as RkImm, Bit as RkBit}
 use Rattle.block.specs.declared.Part.the-variants.{Byte as PartByte, Half as PartHalf}
 use Rattle.block.specs.declared.Choice.the-variants.{MaxU}
 use Rattle.block.specs.declared.DivKind.the-variants.{RemU}
 use Rattle.block.specs.declared.Fast.the-variants.{Nop, MovI, Mov, AddRI, ShlI, SarI, Alu3, Alu2I}
-use Rattle.block.specs.declared.Fast.the-variants.{A4, Ext, MinMax, Div, SpAdd, Ld, St, LdIdx}
-use Rattle.block.specs.declared.Fast.the-variants.{LdPost, StPost, Rmw, PushRet, PopRets, BrI, BrR, BitBr}
-use Rattle.block.specs.declared.Fast.the-variants.{Call, Rts, CallR, BlockMove, PushRets, PopPc, LdPair, StPair}
+use Rattle.block.specs.declared.Fast.the-variants.{A4, Ext, MinMax, Div, BitExt, SpAdd, Ld, St}
+use Rattle.block.specs.declared.Fast.the-variants.{LdIdx, LdPost, StPost, Rmw, PushRet, PopRets, BrI, BrR}
+use Rattle.block.specs.declared.Fast.the-variants.{BitBr, Call, Rts, CallR, BlockMove, PushRets, PopPc, LdPair}
+use Rattle.block.specs.declared.Fast.the-variants.{StPair, LdPre, StPre, LdPostR, MemA4, Tb}
 use Rattle.block.specs.Block.{places, upFrom}
-use Rattle.card.specs.Card.{read, write}
+use Rattle.card.specs.Card.{read, write, guard}
 use Rattle.card.specs.Word.{signedOf, signExtend, leadingZeros}
 use Rattle.card.specs.Memory.{readLE, writeLE, load, direct, store}
 use Rattle.card.specs.Step.{opStep, loadAll, storeAll, pushAll, popAll}
@@ -195,6 +197,109 @@ cases =
     [] (byChain 0) (reg 0 0x100000 & reg 2 0x8012341 & reg 3 0x8012351 & reg 5 0x80000000 & reg 6 8 & reg 9 0xa3858a98 & sp 0x1000008
     & rets 0x100000b & pc 0x100000e & done 0xc & version 0x73f1c9f44c73c06 & guardVersion 0x9a76960a6d3e5480
     & ram (hex 16 0x359fc61c8ef8a851d2f0ffffd3adb880)) (write 0xfffff9 2 2 0xfffffd ∷ write 0x7fffffc 2 6 0x8000001 ∷ [])
+    -- all/09-forms-3/0
+    ∷ runs (block (memory 0x10000 0x25 0x10028 0xc false) 0x24cd7b9 (op (LdPre 2 0xa (ByReg 0) B8 true) 6 false
+    ∷ op (MemA4 0xd 2 Sar RkBit 0xfff8) 0x4a true ∷ op (Tb 2 true) 2 false ∷ [])) (hex 12 0x6ccecdb7558ca0801e3c1a73) 0xffffffff
+    (card (regs 0x000100360001002afdb4281d00010006000100070001002efbc338dd2242a1fe
+    0x0001000100010028000100340001002c0001002700010020ffffffda0001002e) 0x1001d 0x4339d3c4 2 0 0xed2c8360 0
+    (hex 37 0x1cadbd054e34b9f69e7268a8d55291b4686fc9d604cd5438bcc9f3867685da1e4866d76041) []
+    (outcome 0xea 0 (hex 37 0x1cadbd054e34b9f69e7268a8d55291b4686fc9d604cd5438bcc9f3867685da1e4866d76041) []
+    ∷ outcome 0x17e08611 0 (hex 37 0x1cadbd054e34b9f69e7268a8d55291b4686fc9d604cd5438bcc9f3867685da1e4866d76041) []
+    ∷ outcome 0xc41176d8 0 (hex 37 0x1cadbd054e34b9f69e7268a8d55291b4686fc9d604cd5438bcc9f3867685da1e4866d76041) []
+    ∷ outcome 0x7fff 0 (hex 37 0x1cd0bd054e34b9f69e7268a8d55291b4686fc9d6c2cd5438bcc9f3867685da1e4866d76041) []
+    ∷ outcome 0xef 0xffffffff (hex 37 0xe37776dba0617265a7f9c315c28ec40187289b42feb9908b93552f174c5e8b19ecea65b4fe) []
+    ∷ outcome 0x68 0 (hex 37 0x9073a3725f987bcf32b00999198603c6fee40550473a3da220cf9a1e51cf933cac8380af80) [] ∷ []))
+    (entry 0x2c04 0x24dd808 ∷ []) byReturn (reg 2 0xffffffea & reg 10 0x2006a & pc 0x24dd809 & done 3
+    & ram (hex 37 0x1cd0bd054e34b9f69e7268a8d55291b4686fc9d6c2cd5438bcc9f3867685da1e4866d76041)) (read 0x2006a 1 0 ∷ read 0x10022 4 1
+    ∷ write 0x10022 4 1 0x5f82184 ∷ read 0x24cd7f5 2 2 ∷ [])
+    -- all/09-forms-6-breaks/0
+    ∷ runs (block (memory 0x7ffffffc 0x10 0x100 4 false) 0x23e3522 (op (MemA4 9 2 Add RkReg 0) 4 false
+    ∷ op (StPre 0xf 5 (ByInc 7) B16) 6 false ∷ op (StPre 4 9 (ByReg 4) B16) 6 false
+    ∷ op (MemA4 0xe 0xfffffffc AndNot RkBit 0xfffffffe) 2 false ∷ op (MemA4 0xc 4 Sar RkBit 0x7ffffff9) 0xff true
+    ∷ op (Tb 0xf false) 2 true ∷ [])) (hex 4 0x298bac0f) 7
+    (card (regs 0xbc03003c000001080000010000000100000000ffd6d458ebffff800000012345
+    0xf9cde8323c0afd9c0000010080000004fffffffe000000fe0000007ffdc1cace) 0x100 1 0 0 0x210f041d 1
+    (hex 16 0xf6d9f55ef10f60e5393d1d23d930ed96) [] (outcome 1 0xffff0000 (hex 16 0x67d9f5e5f10f60e5393d1d23d930ed96) []
+    ∷ outcome 0x202621b3 1 (hex 16 0x67d9f5e5f10f60e5393d1d23d91ced96) [] ∷ outcome 0x89 0 (hex 16 0xea998be11e52cd27ca83486f7bed3821) []
+    ∷ outcome 0x61 1 (hex 16 0x64ccef46f4e5e0aa7b6b03067d739437) [] ∷ []))
+    (entry 0x1a93 0x23e3526 ∷ []) byReturn (brk 1 & pc 0x23e3526 & done 2 & ram (hex 16 0x67d9f5e5f10f60e5393d1d23d91ced96))
+    (read 0x3c0afd9e 4 1 ∷ write 0x3c0afd9e 4 1 0xbc03003d ∷ [])
+    -- all/09-forms-map/0
+    ∷ runs (block (memory 0xffffff08 0x10 0xffffff00 0x1f true) 0x21477a3 (op (StPre 8 0xb (ByInc 0xffffff1f) B8) 4 false
+    ∷ op (MemA4 2 4 Or RkBit 0xf) 2 false ∷ op (MemA4 7 0xfffffffc Sub RkBit 0xffffffe1) 6 false
+    ∷ op (MemA4 1 2 Sar RkBit 0xffffffe7) 6 false ∷ op (StPre 0xf 9 (ByReg 6) B8) 4 true ∷ []))
+    (hex 31 0xf250ef6a079a2f23cf8bfced92ae4c59ab9c6da39eaeaeff4522d633a7dd59) 0xffffffff
+    (card (regs 0xffffff11ffffff19ffffff06ffffff18ffffff0a419506a9ffffff07ffffff21
+    0xffffff1cffffff17ffffff14ffffff1cffffff11cd5f946effffff1400000100) 0xffffff1c 0x99528a87 0 0 0x4b2a7337 5
+    (hex 16 0x443d4c456a37e3a681d9716459fa1594) (hex 4 0x000100ff)
+    (outcome 0 0 (hex 16 0x443d4c456a37e3a681d97164fbfa1592) (hex 4 0x000100ff)
+    ∷ outcome 0x6e36a34f 0 (hex 16 0x443d4c456a37e3a681d97164fbfa1592) (hex 4 0x000100ff)
+    ∷ outcome 0x80000000 0 (hex 16 0x443d4c456a37e3a681d97164fbfa1592) (hex 4 0x000100ff)
+    ∷ outcome 0 0 (hex 16 0x443d4c456a37e3a681d9716484fa1592) (hex 4 0x000000ff)
+    ∷ outcome 0x7fffffff 0 (hex 16 0x443d12456a37e3a68131716484fa1592) (hex 4 0x000000ff)
+    ∷ outcome 0x80 0 (hex 16 0x443d12456a37e3a68131716484fa1592) (hex 4 0x000000ff) ∷ []))
+    [] (byChain 0) (reg 9 0xfffffe1e & reg 11 0xfffffe3b & pc 0x21477b9 & done 0xa & ram (hex 16 0x443d12456a37e3a68131716484fa1592)
+    & map (hex 4 0x000000ff)) (write 0xfffffe3b 1 5 0xffffff1c ∷ write 0xffffff0a 4 6 0x376a454d ∷ read 0xffffff1d 4 7
+    ∷ write 0xffffff1d 4 7 0x7e000000 ∷ write 0xffffff1b 4 8 0x167769cc ∷ write 0xfffffe1e 1 9 0x100 ∷ [])
+    -- all/09-mixed-12/0
+    ∷ runs (block (memory 0x20000000 0x10 0x8000000 0x10 true) 0x2cee1b6 (op (SarI 5 9 0x21) 0xff true
+    ∷ op (Ld 4 (Reg 14) 2 B32 true) 4 false ∷ op (Ld 6 (Reg 14) 2 B16 false) 0xff false ∷ op (MemA4 7 0 Sub RkBit 0xab0b23f9) 0xff false
+    ∷ op (MemA4 7 0 Or RkImm 0xc0de6fb2) 4 true ∷ op (BitExt 9 6 0x1f 0x40 true) 4 true ∷ op (ShlI 9 3 0xff) 2 false
+    ∷ op (StPre 2 0xc (ByInc 7) B16) 2 false ∷ op (LdPair 2 Sp 4) 4 false ∷ op (Alu2I 0xa 0xff Sar) 4 false
+    ∷ op (LdPair 0xff (Reg 12) 2) 2 false ∷ op (Tb 6 false) 6 false ∷ [])) (hex 16 0xe24e15439fa07d10af2ef25f5600fd1c) 0x96cb4809
+    (card (regs 0x080000120800000b08000010200000063aa62d7b080000141d311b2f07fffffe
+    0x200000000800000b2000000e2000000f07fffffe2000000a0800001420000000) 0x20000014 0x17 0 0 0x932147f8 0x1000
+    (hex 16 0x5728bf59c5c0932401e6ed16279d25fd) (hex 4 0x01008000)
+    (outcome 0xffffffff 0 (hex 16 0x5728bf59c5c0932401e6ed16279d25fd) (hex 4 0x01008000)
+    ∷ outcome 0x8000 0 (hex 16 0x5728bf59c53b932401e6ed16279d25fd) (hex 4 0x01008000)
+    ∷ outcome 0x7fffffff 0 (hex 16 0x5728bf59c53b932401e6ed16279d25fd) (hex 4 0x01008000)
+    ∷ outcome 0xffffffff 0 (hex 16 0x5728bf59c53b932401e6ed16279d25fd) (hex 4 0x01008000)
+    ∷ outcome 1 0 (hex 16 0x5728bf59c53b932401e6eda3279d25fd) (hex 4 0x01008000)
+    ∷ outcome 0x654d9d45 0 (hex 16 0x5728bf59c53b932401e6eda3279d25fd) (hex 4 0x01008000)
+    ∷ outcome 1 0 (hex 16 0x5728bf59c53b932401e6eda3279d25fd) (hex 4 0x01008000)
+    ∷ outcome 0x7eaebb35 0 (hex 16 0x5728bf59c53b932401e6eda3969d25fd) (hex 4 0x01008000)
+    ∷ outcome 1 0 (hex 16 0x5728bf59c53b932401e6eda3969d25fd) (hex 4 0x01008000)
+    ∷ outcome 0x7f 0 (hex 16 0x5728bf59c53b932401e6eda3969d25fd) (hex 4 0x01008000)
+    ∷ outcome 0x93 0 (hex 16 0x672f5b9fc0a5679849f3bb963fea303f) (hex 4 0x233dfb10)
+    ∷ outcome 0x88 0xffffffff (hex 16 0x75a50f630e5ac8dc268f1f543a02de67) (hex 4 0x2e84ac36) ∷ []))
+    (entry 0x32e8 0x2cee5d1 ∷ []) byTable (reg 4 0x7eaebb35 & reg 5 1 & reg 6 0x8000 & reg 9 0 & reg 10 0 & reg 12 0x8000005
+    & reg 14 0xf22eaf10 & reg 15 0xfd00565f & pc 0x2cee5d1 & done 0x100c & ram (hex 16 0x5728bf59c53b932401e6eda3969d25fd))
+    (read 0x8000016 4 0x1001 ∷ read 0x8000016 2 0x1002 ∷ read 0x7fffffe 4 0x1003 ∷ write 0x7fffffe 4 0x1003 0x7ffff7ff
+    ∷ read 0x7fffffe 4 0x1004 ∷ write 0x7fffffe 4 0x1004 0xc0de6fb3 ∷ write 0x8000005 2 0x1007 0x8000010 ∷ read 0x20000018 4 0x1008
+    ∷ read 0x2000001c 4 0x1008 ∷ read 0x2cf64d3 1 0x100b ∷ [])
+    -- all/09-in-ram-6/0
+    ∷ runs (guarded 0xa000000aaf (block (memory 0x1000000 0xc 0x1000800 7 true) 0x1000004 (op (LdPostR 0xf 6 2 B32 false) 1 false
+    ∷ op (StPre 0 0xa (ByReg 8) B16) 1 true ∷ op (LdPostR 9 0 0 B8 true) 2 true ∷ op (StPre 0xb 8 (ByReg 0xc) B8) 1 false
+    ∷ op (LdPre 4 3 (ByInc 0x1000011) B8 true) 2 true ∷ op (Tb 7 true) 0 true ∷ []))) (hex 7 0xd51be2fc4beb99) 0xc4e12a03
+    (versions 5 0xa000000aaf 6 (card (regs 0x0100000c010007fc01000805010008030100080901000805206d549ddf1501ea
+    0x0100080a01000803010000051333a63101000809010008072888929a01000805) 0x1000801 6 0 0 0xd3e952a1 0 (hex 12 0xe196356c92fe7743c75721b5)
+    (hex 3 0x008080) (leaving 5 5 (outcome 1 0 (hex 12 0xe196356c92fe7743c7579fb5) (hex 3 0x008080))
+    ∷ leaving 5 5 (outcome 1 0 (hex 12 0xe196353292fe7743c7579fb5) (hex 3 0x000180))
+    ∷ leaving 0x3536138ac737bc74 0x943a04cebdbf2c62 (outcome 0xa367 1 (hex 12 0xe196353292a37743c7579fe2) (hex 3 0x000001))
+    ∷ leaving 3 3 (outcome 0x9f 1 (hex 12 0x32bd2cd7da03a7fdf76cf1e3) (hex 3 0x9e2cf7)) ∷ [])))
+    (entry 3 0x1000006 ∷ []) byReturn (reg 6 0x216d5ca2 & reg 10 0x200080f & reg 15 1 & hold 1 & brk 1 & pc 0x1000006 & done 2
+    & version 0x3536138ac737bc74 & guardVersion 0x943a04cebdbf2c62 & ram (hex 12 0xe196353292a37743c7579fe2) & map (hex 3 0x000001))
+    (guard 0xa000000aaf ∷ read 0x206d549d 4 0 ∷ write 0x200080f 2 1 0x100000c ∷ [])
+    -- all/09-limit-over/0
+    ∷ runs (block (memory 0x1000000 7 0x2000000 0x10 true) 0x2f2045e (op (StPre 0xd 0xd (ByInc 0x18e3d870) B8) 0x3c true
+    ∷ op (LdPre 4 4 (ByInc 0x1000000) B8 false) 0 true ∷ op (Tb 7 true) 4 true ∷ [])) (hex 16 0x22eb3dc240ac6c3d02a93ec378c1f859) 2
+    (card (regs 0x0100000300fffffc372e080500ffffff010000070100000201000007fe0dfb67
+    0x010000020100000362b269d5020000080200000a02000009094c187e02000014) 0x1000004 0x9a0bde65 2 0 0x9d3d0df7 0 (hex 7 0xda471d563c70ea)
+    (hex 2 0x00ff) (outcome 0xfe 1 (hex 7 0xbc8aeb0c2848cd) (hex 2 0x2a3c)
+    ∷ outcome 0xa0 0xffffffff (hex 7 0x6f4fefc6915beb) (hex 2 0x2679) ∷ []))
+    (entry 0x22f 0x2f2045e ∷ []) byReturn (pc 0x2f2045e) []
+    -- all/09-done-max/0
+    ∷ runs (block (memory 0x7ffffffc 4 0x100 8 false) 0x2767fe4 (op (StPre 0xf 0xf (ByInc 0xc8f5d29c) B32) 0x20 false
+    ∷ op (LdPostR 7 0xd 2 B32 true) 2 true ∷ op (MemA4 6 1 Sar RkBit 0xfffffffc) 2 true ∷ op (Tb 0xf true) 0 false ∷ []))
+    (hex 8 0x5e24768e4b82e0bc) 0xffffffff
+    (card (regs 0x000001010000010c800000007ffffffe000000007ffffff8000000fe00000103
+    0x00000105000001010001000000000103000001027ffffffe80000000fd8980f9) 0x105 0xfffffffe 1 0 0x564db1c4 0xfffffffb (hex 4 0xb8c5d4bb) []
+    (outcome 0x7fffffff 0 (hex 4 0xb8c55fbb) [] ∷ outcome 0 0 (hex 4 0xb8c55fbb) [] ∷ outcome 0 0 (hex 4 0xb89791bb) []
+    ∷ outcome 0x7fffffff 0 (hex 4 0xb89791bb) [] ∷ outcome 0x8000 0 (hex 4 0xb8a091bb) [] ∷ outcome 0x64 1 (hex 4 0x18cc9a25) []
+    ∷ outcome 0xcb 1 (hex 4 0x4fdc3601) [] ∷ []))
+    (entry 4 0x82778008 ∷ []) byReturn (reg 7 0 & reg 13 0xfffffffe & reg 15 0xc67f5395 & pc 0x2778008 & done 0xffffffff
+    & ram (hex 4 0xb8a091bb)) (write 0xc67f5395 4 0xfffffffb 0xc67f5395 ∷ read 0x7ffffffe 4 0xfffffffc ∷ read 0xff 4 0xfffffffd
+    ∷ write 0xff 4 0xfffffffd 0 ∷ read 0xc8f5d39d 2 0xfffffffe ∷ [])
     ∷ []
 
 pub all-reach : reached cases ≡ expected cases

@@ -1,8 +1,12 @@
 -- The instructions that the code calls by a name: with no operand to choose.
 use Rattle.arm.specs.declared.Instr.{Instr}
-use Rattle.lowering.specs.Instrs.{KEEP, ZR, EQ, LT, GT, mov, movz, addI, subI, cmpI, add, sub, cmp, neg, and, orr, eor, mvn, tst, rev, clz, sdiv, udiv, lslv, msub, csel, cnegLt}
+use Rattle.lowering.specs.Instrs.{KEEP, KEEP2, ZR, EQ, LT, GT, mov, movz, addI, subI, cmpI, add, sub, cmp, neg, and, orr, eor, mvn, tst}
+use Rattle.lowering.specs.Instrs.{rev, clz, sdiv, udiv, lslv, msub, csel, cnegLt}
 use Rattle.choices.specs.declared.Fixed.{Fixed}
-use Rattle.choices.specs.declared.Fixed.the-variants.{Movz11, Lslv112, Cmp01, CmpI00, CmpI10, Tst01, Mvn00, Neg00, CnegLt00, Rev00, Clz00, Csel010Gt, Csel010Lt, Csel0z0Lt, Csel2z2Eq, Sdiv201, Udiv201, Msub2210, And002, And112, And102, Orr001, Orr102, Eor102, Add102, Sub102, AddI004, SubI004, SubI001, Mov0Keep, MovKeep0}
+use Rattle.choices.specs.declared.Fixed.the-variants.{Movz11, Lslv112, Cmp01, CmpI00, CmpI10, Tst01, Mvn00, Neg00, CnegLt00, Rev00}
+use Rattle.choices.specs.declared.Fixed.the-variants.{Clz00, Csel010Gt, Csel010Lt, Csel0z0Lt, Csel2z2Eq, Sdiv201, Udiv201, Msub2210}
+use Rattle.choices.specs.declared.Fixed.the-variants.{And002, And112, And102, Orr001, Orr102, Eor102, Add102, Sub102, AddI004}
+use Rattle.choices.specs.declared.Fixed.the-variants.{SubI004, SubI001, Mov0Keep, MovKeep0, Add00Keep, MovKeep21, Mov1Keep2, Mov10}
 
 abbrev pub instrOf : Fixed → Instr
 instrOf Movz11 = movz 1 1
@@ -36,3 +40,7 @@ instrOf SubI004 = subI 0 0 4
 instrOf SubI001 = subI 0 0 1
 instrOf Mov0Keep = mov 0 KEEP
 instrOf MovKeep0 = mov KEEP 0
+instrOf Add00Keep = add 0 0 KEEP
+instrOf MovKeep21 = mov KEEP2 1
+instrOf Mov1Keep2 = mov 1 KEEP2
+instrOf Mov10 = mov 1 0

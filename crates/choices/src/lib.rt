@@ -31,6 +31,8 @@ use block::on_bus;
 
 const KEEP: u32 = 23;
 
+const KEEP2: u32 = 24;
+
 const ZR: u32 = 31;
 
 // conditions, by their numbers
@@ -87,6 +89,10 @@ pub enum Fixed {
     SubI001,
     Mov0Keep,
     MovKeep0,
+    Add00Keep,
+    MovKeep21,
+    Mov1Keep2,
+    Mov10,
 }
 
 // ---- classes of instructions on registers, in 32 bits
@@ -155,6 +161,10 @@ pub fn named(f: Fixed) -> u32
         Fixed::SubI001 => words::add_sub_imm(Size::W, AddSub::Sub, Flags::Keeps, 1, 0, 0),
         Fixed::Mov0Keep => logic(Logic::Orr, Second::Plain, 0, ZR, KEEP),
         Fixed::MovKeep0 => logic(Logic::Orr, Second::Plain, KEEP, ZR, 0),
+        Fixed::Add00Keep => sum(AddSub::Add, Flags::Keeps, 0, 0, KEEP),
+        Fixed::MovKeep21 => logic(Logic::Orr, Second::Plain, KEEP2, ZR, 1),
+        Fixed::Mov1Keep2 => logic(Logic::Orr, Second::Plain, 1, ZR, KEEP2),
+        Fixed::Mov10 => logic(Logic::Orr, Second::Plain, 1, ZR, 0),
     }
 }
 
@@ -341,6 +351,11 @@ pub fn kind(f: Fast) -> u8
         Fast::PopPc { .. } => 42,
         Fast::LdPair { .. } => 43,
         Fast::StPair { .. } => 44,
+        Fast::LdPre { .. } => 45,
+        Fast::StPre { .. } => 46,
+        Fast::LdPostR { .. } => 47,
+        Fast::MemA4 { .. } => 48,
+        Fast::Tb { .. } => 49,
     }
 }
 

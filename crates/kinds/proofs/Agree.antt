@@ -13,7 +13,7 @@ use Rattle.block.specs.declared.Fast.{Fast}
 use Rattle.block.specs.declared.Fast.the-variants.{Nop, MovI, Mov, AddRI, ShlI, SarI, Alu3, Alu3I, Alu2, Alu2I, A4, Ext, MinMax, Un, Div}
 use Rattle.block.specs.declared.Fast.the-variants.{Mov2, Mov2I, BitExt, BitIns, SpAdd, RFromSp, Ld, St, LdIdx, StIdx, LdPost, StPost, Rmw}
 use Rattle.block.specs.declared.Fast.the-variants.{PushRet, PopRets, BrI, BrR, DecBr, BitBr, Goto, Call, Rts, GotoR, CallR, PopRet}
-use Rattle.block.specs.declared.Fast.the-variants.{BlockMove, PushRets, PopPc, LdPair, StPair}
+use Rattle.block.specs.declared.Fast.the-variants.{BlockMove, PushRets, PopPc, LdPair, StPair, LdPre, StPre, LdPostR, MemA4, Tb}
 use Rattle.block.specs.declared.BOp.{BOp}
 use Rattle.block.specs.declared.Block.{Block}
 use Rattle.block.specs.Block.{usesBus}
@@ -31,6 +31,7 @@ use Rattle.kinds.proofs.Kind.{nop, movI, mov, addRI, shlI, sarI, alu3, 
 use Rattle.kinds.proofs.Kind.{div-kind, mov2, mov2I, bitExt-kind, bitIns-kind, spAdd, rFromSp}
 use Rattle.kinds.proofs.Bus.{ld, st, ldIdx, stIdx, ldPost, stPost, rmw-kind, pushRet, popRets}
 use Rattle.kinds.proofs.Groups.{blockMove, pushRets, popPc, ldPair, stPair}
+use Rattle.kinds.proofs.Forms.{ldPre, stPre, ldPostR, memA4, tb}
 use Rattle.kinds.proofs.Jumps.{brI, brR, decBr, bitBr, goto-kind, call-kind, rts, gotoR, callR, popRet}
 
 -- steps in two parts
@@ -96,6 +97,11 @@ module _ (b : Block) (flash : List ℕ) (limit i next : ℕ) (a : Abs) (small : 
   kind-agrees (PopPc n) h = popPc b flash limit i next a small n
   kind-agrees (LdPair p r o) h = ldPair b flash limit i next a small p r o
   kind-agrees (StPair p r o) h = stPair b flash limit i next a small p r o
+  kind-agrees (LdPre d r x w signed) h = ldPre b flash limit i next a small d r x w signed
+  kind-agrees (StPre s r x w) h = stPre b flash limit i next a small s r x w
+  kind-agrees (LdPostR d r x w signed) h = ldPostR b flash limit i next a small d r x w signed
+  kind-agrees (MemA4 r o op rk rv) h = memA4 b flash limit i next a small r o op rk rv (h .2)
+  kind-agrees (Tb r half) h = tb b flash limit i next a small r half
 
   -- the break check behind kinds that use the bus
   check-agrees : (glue bus : Bool) (a₁ : Abs) (c : Card) → a₁ .c ≡ c

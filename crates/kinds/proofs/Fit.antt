@@ -13,6 +13,8 @@ use Rattle.block.specs.declared.RmwOp.{RmwOp}
 use Rattle.block.specs.declared.RmwOp.the-variants.{Or as RmwOr, And as RmwAnd, Xor as RmwXor, Add as RmwAdd, Sub as RmwSub, Mov as RmwMov}
 use Rattle.block.specs.declared.Base.{Base}
 use Rattle.block.specs.declared.Base.the-variants.{Reg, Sp}
+use Rattle.block.specs.declared.Amount.{Amount}
+use Rattle.block.specs.declared.Amount.the-variants.{Reg as ByReg, Inc as ByInc}
 use Rattle.block.specs.declared.Width.{Width}
 use Rattle.block.specs.declared.Rk.{Rk}
 use Rattle.block.specs.declared.Rk.the-variants.{Reg as RkReg, Imm as RkImm, Bit as RkBit}
@@ -26,15 +28,15 @@ use Rattle.block.specs.declared.Fast.{Fast}
 use Rattle.block.specs.declared.Fast.the-variants.{Nop, MovI, Mov, AddRI, ShlI, SarI, Alu3, Alu3I, Alu2, Alu2I, A4, Ext, MinMax, Un, Div}
 use Rattle.block.specs.declared.Fast.the-variants.{Mov2, Mov2I, BitExt, BitIns, SpAdd, RFromSp, Ld, St, LdIdx, StIdx, LdPost, StPost, Rmw}
 use Rattle.block.specs.declared.Fast.the-variants.{PushRet, PopRets, BrI, BrR, DecBr, BitBr, Goto, Call, Rts, GotoR, CallR, PopRet}
-use Rattle.block.specs.declared.Fast.the-variants.{BlockMove, PushRets, PopPc, LdPair, StPair}
+use Rattle.block.specs.declared.Fast.the-variants.{BlockMove, PushRets, PopPc, LdPair, StPair, LdPre, StPre, LdPostR, MemA4, Tb}
 use Rattle.block.specs.declared.BOp.{BOp}
 use Rattle.block.specs.Block.{usesBus, members, span, saved, pairOf}
 use Rattle.block.proofs.Groups.{Registers, members-in, members-few, saved-in, pair-in, reverse-in}
-use Rattle.block.specs.Checked.{FastFits, BOpFits, BaseFits}
+use Rattle.block.specs.Checked.{FastFits, BOpFits, BaseFits, AmountFits}
 use Rattle.code.specs.Items.{pick}
 use Rattle.lowering.specs.Instrs.{KEEP, mov, sbfx, ubfx}
-use Rattle.lowering.specs.Steps.{Step, lowered, opSteps, alu, ext, rhs, base, un, div, low, ones, hole, sign, rmwValue, rets, moveWord}
-use Rattle.lowering.specs.Steps.{moveWords, moveBase, push, pop, pushAll, popAll}
+use Rattle.lowering.specs.Steps.{Step, lowered, opSteps, alu, ext, rhs, base, un, div, low, ones, hole, sign, rmwValue, combined, rets}
+use Rattle.lowering.specs.Steps.{advance, moveWord, moveWords, moveBase, push, pop, pushAll, popAll}
 use Rattle.lowering.proofs.Groups.{offset-lt}
 use Rattle.relation.specs.Relation.{cls}
 use Rattle.relation.specs.Fits.{temp, tempOrZero, onTemps, StepFits, AllFit}
@@ -79,6 +81,11 @@ base-fits : (x : Base) → BaseFits x → StepFits (base x)
 unfolding StepFits cls
 base-fits (Reg r) h = (refl, h)
 base-fits Sp h = refl
+
+advance-fits : (x : Amount) → AmountFits x → AllFit (advance x)
+unfolding StepFits onTemps tempOrZero temp cls
+advance-fits (ByReg r) h = ((refl, h), (tt, tt))
+advance-fits (ByInc v) h = ((refl, refl, (λ e. omega arith), h), tt)
 
 un-fits : (k : UnKind) → AllFit (un k)
 unfolding StepFits onTemps tempOrZero temp cls
@@ -242,6 +249,16 @@ module _ (i next : ℕ) (hi : i < 32) (hn : next < 2 ^ 32) where
       (base-fits r (h .1), ((refl, refl, (λ e. omega arith), h .2), words-fit i hi false 0 (pairOf p) (omega arith) (pair-in p)))
   kind-fits (StPair p r o) h =
       (base-fits r (h .1), ((refl, refl, (λ e. omega arith), h .2), words-fit i hi true 0 (pairOf p) (omega arith) (pair-in p)))
+  kind-fits (LdPre d r x w signed) h =
+      ((refl, h .1), fit-append (advance x) _ (advance-fits x (h .2)) ((refl, h .1), (hi, ((refl, h .0), tt))))
+  kind-fits (StPre s r x w) h = ((refl, h .1), fit-append (advance x) _ (advance-fits x (h .2)) ((refl, h .1), ((refl, h .0), (hi, tt))))
+  kind-fits (LdPostR d r x w signed) h = ((refl, h .2), ((refl, h .1), (hi, ((refl, h .0), ((refl, h .1), (tt, ((refl, h .1), tt)))))))
+  kind-fits (MemA4 r o op rk rv) h =
+      let combines : AllFit (combined op i) = (tt, (hi, (tt, (alu-fits op, (tt, (tt, (hi, tt))))))) in
+      fit-append (rhs rk rv) _ (rhs-fits rk rv (h .2)) (tt, ((refl, h .0), ((refl, refl, (λ e. omega arith), h .1), combines)))
+  kind-fits (Tb r half) h =
+      let next-added : StepFits (Step.addImm 0 0 next) = (refl, refl, (λ e. omega arith), hn) in
+      ((refl, h), (next-added, (hi, (tt, (next-added, ((refl, count-lt), tt))))))
 
   check-fits : (glue : Bool) → StepFits (Step.checkBrk glue next (i + 1))
   unfolding StepFits

@@ -52,7 +52,7 @@ looks i target c = (refl, ap (λ n. arrive target n c) (add-one i))
 abbrev found : (brk : Bool) → (target count : ℕ) → Card → Then
 found u target n c = andThen (cond u (off exits (arrive target n c)) (off looksUp (arrive target n c))) (λ a. go a)
 
-looks-brk : (i target : ℕ) (c : Card) → Agrees (indBrk i target c) (found (not (eqb (c .brk) 0)) target (i + 1) c)
+pub looks-brk : (i target : ℕ) (c : Card) → Agrees (indBrk i target c) (found (not (eqb (c .brk) 0)) target (i + 1) c)
 looks-brk i target c = by (eqb (c .brk) 0)
   where
     by : (u : Bool) → Agrees (cond u (ind i target c) (out exits (arrive target (suc i) c))) (found (not u) target (i + 1) c)

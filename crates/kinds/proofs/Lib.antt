@@ -4,5 +4,6 @@ pub mod Kind
 pub mod Bus
 pub mod Jumps
 pub mod Groups
+pub mod Forms
 pub mod Agree
 pub mod Fit

@@ -13,6 +13,10 @@ use Rattle.block.specs.declared.Width.the-variants.{Byte as B8, Half as B16, Wo
 use Rattle.block.specs.declared.Block.{Block}
 use Rattle.block.specs.declared.Base.{Base}
 use Rattle.block.specs.declared.Base.the-variants.{Reg, Sp}
+use Rattle.block.specs.declared.Amount.{Amount}
+use Rattle.block.specs.declared.Amount.the-variants.{Reg as ByReg, Inc as ByInc}
+use Rattle.block.specs.declared.Rk.{Rk}
+use Rattle.block.specs.declared.Rk.the-variants.{Reg as RkReg, Imm as RkImm, Bit as RkBit}
 use Rattle.block.specs.declared.RmwOp.{RmwOp}
 use Rattle.block.specs.declared.RmwOp.the-variants.{Or as RmwOr, And as RmwAnd, Xor as RmwXor, Add as RmwAdd, Sub as RmwSub, Mov as RmwMov}
 use Rattle.block.specs.Block.{members, span, saved, pairOf}
@@ -22,9 +26,9 @@ use Rattle.code.specs.Tree.{wholeLines, poolIn, linesWords}
 use Rattle.code.proofs.Tree.{poolIn-append, pool-same, whole-size, whole-length}
 use Rattle.code.proofs.Fetch.{words-length}
 use Rattle.lowering.specs.declared.RegCache.{RegCache}
-use Rattle.lowering.specs.Instrs.{KEEP, mov}
+use Rattle.lowering.specs.Instrs.{KEEP, KEEP2, mov}
 use Rattle.lowering.specs.Cache.{emptyCache}
-use Rattle.lowering.specs.Steps.{Step, base, rmwValue, lowered, moveWords, moveBase, pop, pushAll, popAll, blockSteps}
+use Rattle.lowering.specs.Steps.{Step, base, rhs, advance, combined, rmwValue, lowered, moveWords, moveBase, pop, pushAll, popAll, blockSteps}
 use Rattle.lowering.specs.Fragments.{alignTest, store, stepCode, stepCache, stepsCode, closing}
 use Rattle.lowering.specs.Compile.{blockCode, blockLines, blockWords, starts, targets, zipSites, sites}
 use Rattle.lowering.specs.Commit.{commitStep, commitCode, commitLines, commitWords, commitSites, Adds, same, tests, both, isWord}
@@ -202,6 +206,17 @@ module _ (blk : Block) where
   base-untested (Reg r) = refl
   base-untested Sp = refl
 
+  amount-untested : (by : Amount) → allTested blk (advance by) ≡ 0
+  unfolding allTested
+  amount-untested (ByReg r) = refl
+  amount-untested (ByInc v) = refl
+
+  rhs-untested : (rk : Rk) (rv : ℕ) → allTested blk (rhs rk rv) ≡ 0
+  unfolding allTested
+  rhs-untested RkReg rv = refl
+  rhs-untested RkImm rv = refl
+  rhs-untested RkBit rv = refl
+
   words-untested : (store : Bool) (i k : ℕ) (rs : List ℕ) → allTested blk (moveWords store i k rs) ≡ 0
   unfolding allTested moveWords
   words-untested store i k [] = refl
@@ -244,6 +259,12 @@ module _ (blk : Block) where
             let last : List Step = Step.ins (mov 0 KEEP) ∷ Step.store w true i ∷ [] in
             omega (arith, tested-append (rmwValue op w v i) last, value-untested op w v i);
         ret-pushed = omega arith;
+        advanced = λ s b by w.
+            let last : List Step = Step.stReg 0 b ∷ Step.ldReg 1 s ∷ Step.store w true i ∷ [] in
+            omega (arith, tested-append (advance by) last, amount-untested by);
+        combined = λ b off rv op rk.
+            let last : List Step = Step.ins (mov KEEP2 1) ∷ Step.ldReg 0 b ∷ Step.addImm KEEP 0 off ∷ combined op i in
+            omega (arith, tested-append (rhs rk rv) last, rhs-untested rk rv);
         moved = λ b mask store post down.
             omega (
               arith,

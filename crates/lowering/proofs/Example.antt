@@ -1,4 +1,4 @@
--- Five small blocks, their words and chain sites computed: the listings are what the commit's `compile` gives for them, that of the fourth
+-- Six small blocks, their words and chain sites computed: the listings are what the commit's `compile` gives for them, that of the fourth
 -- with the tests of 2026-04 and without.
 -- Assumes nothing.
 use mathlib.Core.Path.{_≡_, refl}
@@ -9,9 +9,11 @@ use Rattle.block.specs.declared.Op.the-variants.{Add, Sub, And}
 use Rattle.block.specs.declared.RmwOp.the-variants.{Mov as RmwMov}
 use Rattle.block.specs.declared.Cond.the-variants.{Ne}
 use Rattle.block.specs.declared.Base.the-variants.{Reg, Sp}
-use Rattle.block.specs.declared.Width.the-variants.{Half as B16, Word as B32}
+use Rattle.block.specs.declared.Amount.the-variants.{Reg as ByReg, Inc as ByInc}
+use Rattle.block.specs.declared.Width.the-variants.{Byte as B8, Half as B16, Word as B32}
+use Rattle.block.specs.declared.Rk.the-variants.{Bit as RkBit}
 use Rattle.block.specs.declared.Fast.the-variants.{Nop, Mov, Alu3, Mov2, Ld, St, Rmw, PushRet, BrI, PopRet}
-use Rattle.block.specs.declared.Fast.the-variants.{BlockMove, PushRets, PopPc, LdPair}
+use Rattle.block.specs.declared.Fast.the-variants.{BlockMove, PushRets, PopPc, LdPair, LdPre, StPre, LdPostR, MemA4, Tb}
 use Rattle.block.specs.declared.BOp.{BOp}
 use Rattle.block.specs.declared.Layout.{Layout}
 use Rattle.block.specs.declared.Addresses.{Addresses}
@@ -324,3 +326,71 @@ fifth-words = refl
 pub fifth-sites : sites fifth ≡ record { at = 40; target = 0x20000502 } ∷ []
 unfolding blockWords blockLines blockCode sites starts addImm brkFirst even loads tryRegion extended alignTest mapTest stores call exitImm chain ind hold checkBrk fork limit guard load store stepCode stepCache stepsCode opening closing position latest oldest chosen spill slotFor seated ldReg stReg stored flushFrom flush reloadFrom reload mov32 lowered opSteps opsSteps blockSteps index add halves padOf baseOf words lines instrs wholeLines poolIn findIn linesWords
 fifth-sites = refl
+
+-- The forms of 2026-09: a signed halfword by a register's amount; a word stored alone past the code map by a negative increment, its base
+-- moved first; a byte whose index is its target, with a glued break check; memory less a bit, stored back; the end by a halfword of a
+-- table. Behind an odd.
+abbrev sixth : Block
+sixth =
+    record {
+      layout = layout;
+      memory = record { «ram_base» = 0x20000000; «ram_len» = 64; «xip_base» = 0x02000000; «xip_len» = 16; map = true };
+      addresses = addresses;
+      pc0 = 0x02000600;
+      guard = noGuard;
+      ops =
+          padded 32
+          (record { fast = LdPre 1 2 (ByReg 3) B16 true; len = 2; glue = false }
+          ∷ record { fast = StPre 4 2 (ByInc 0xfffffffc) B32; len = 2; glue = false }
+          ∷ record { fast = LdPostR 5 2 5 B8 false; len = 2; glue = true }
+          ∷ record { fast = MemA4 2 8 Sub RkBit 3; len = 2; glue = false }
+          ∷ record { fast = Tb 1 true; len = 4; glue = false }
+          ∷ []);
+      n = 5;
+    }
+
+pub sixth-words : blockWords sixth ≡
+    0xa9ba7bfd ∷ 0xa90153f3 ∷ 0xa9025bf5 ∷ 0xa90363f7 ∷ 0xa9046bf9 ∷ 0xa90573fb ∷ 0xaa0003f3 ∷ 0xaa0103f4
+    ∷ 0xaa0203f5 ∷ 0xaa0303f6 ∷ 0x2a0403fb ∷ 0xaa0503f9 ∷ 0x5280001a ∷ 0x11001749 ∷ 0x6b1b013f ∷ 0x540000c9
+    ∷ 0x5280c009 ∷ 0x72a04009 ∷ 0xb9004a69 ∷ 0x11000340 ∷ 0x14000108 ∷ 0xb9400a65 ∷ 0x2a0503e0 ∷ 0xb9400e66
+    ∷ 0x2a0603e1 ∷ 0x0b010000 ∷ 0x2a0003e5 ∷ 0x52a40002 ∷ 0x4b020003 ∷ 0x12800022 ∷ 0x0a020063 ∷ 0x528007c2
+    ∷ 0x6b02007f ∷ 0x54000068 ∷ 0x78e34aa0 ∷ 0x14000014 ∷ 0x52a04002 ∷ 0x4b020003 ∷ 0x12800022 ∷ 0x0a020063
+    ∷ 0x528001c2 ∷ 0x6b02007f ∷ 0x54000068 ∷ 0x78e34ac0 ∷ 0x1400000b ∷ 0x2a0003e1 ∷ 0xaa1403e0 ∷ 0x11000342
+    ∷ 0x52800043 ∷ 0xb9000a65 ∷ 0x58001e49 ∷ 0xd63f0120 ∷ 0xb9400a65 ∷ 0xb9400e66 ∷ 0x13003c00 ∷ 0x2a0003e7
+    ∷ 0xb9401a89 ∷ 0x34000109 ∷ 0xb9000a65 ∷ 0xb9000667 ∷ 0x5280c049 ∷ 0x72a04009 ∷ 0xb9004a69 ∷ 0x11000740
+    ∷ 0x140000dc ∷ 0x2a0503e0 ∷ 0x51001000 ∷ 0x2a0003e5 ∷ 0xb9401268 ∷ 0x2a0803e1 ∷ 0x37000180 ∷ 0x37080160
+    ∷ 0x52a40002 ∷ 0x4b020003 ∷ 0x52800782 ∷ 0x6b02007f ∷ 0x540000c8 ∷ 0x53027c62 ∷ 0x38624b22 ∷ 0x35000062
+    ∷ 0xb8234aa1 ∷ 0x1400000e ∷ 0x2a0103e2 ∷ 0x2a0003e1 ∷ 0xaa1403e0 ∷ 0x11000743 ∷ 0x52800084 ∷ 0xb9000a65
+    ∷ 0xb9000667 ∷ 0x580019a9 ∷ 0xd63f0120 ∷ 0xb9400a65 ∷ 0xb9400e66 ∷ 0xb9400667 ∷ 0xb9401268 ∷ 0xb9401a89
+    ∷ 0x34000109 ∷ 0xb9000a65 ∷ 0xb9000667 ∷ 0x5280c089 ∷ 0x72a04009 ∷ 0xb9004a69 ∷ 0x11000b40 ∷ 0x140000b5
+    ∷ 0xb940166e ∷ 0x2a0e03f7 ∷ 0x2a0503e0 ∷ 0x52a40002 ∷ 0x4b020003 ∷ 0x528007e2 ∷ 0x6b02007f ∷ 0x54000068
+    ∷ 0x38634aa0 ∷ 0x14000015 ∷ 0x52a04002 ∷ 0x4b020003 ∷ 0x528001e2 ∷ 0x6b02007f ∷ 0x54000068 ∷ 0x38634ac0
+    ∷ 0x1400000e ∷ 0x2a0003e1 ∷ 0xaa1403e0 ∷ 0x11000b42 ∷ 0x52800023 ∷ 0xb9000a65 ∷ 0xb9000667 ∷ 0x580014a9
+    ∷ 0xd63f0120 ∷ 0xb9400a65 ∷ 0xb9400e66 ∷ 0xb9400667 ∷ 0xb9401268 ∷ 0xb940166e ∷ 0x2a0003ee ∷ 0x2a0503e0
+    ∷ 0x0b170000 ∷ 0x2a0003e5 ∷ 0xb9401a89 ∷ 0x34000169 ∷ 0x52800029 ∷ 0xb9004e69 ∷ 0xb9000a65 ∷ 0xb9000667
+    ∷ 0xb900166e ∷ 0x5280c0c9 ∷ 0x72a04009 ∷ 0xb9004a69 ∷ 0x11000f40 ∷ 0x14000087 ∷ 0x2a0603e2 ∷ 0x52800021
+    ∷ 0x1ac22021 ∷ 0x2a0103f8 ∷ 0x2a0503e0 ∷ 0x11002017 ∷ 0x2a1703e0 ∷ 0x52a40002 ∷ 0x4b020003 ∷ 0x52800782
+    ∷ 0x6b02007f ∷ 0x54000068 ∷ 0xb8634aa0 ∷ 0x14000016 ∷ 0x52a04002 ∷ 0x4b020003 ∷ 0x52800182 ∷ 0x6b02007f
+    ∷ 0x54000068 ∷ 0xb8634ac0 ∷ 0x1400000f ∷ 0x2a0003e1 ∷ 0xaa1403e0 ∷ 0x11000f42 ∷ 0x52800083 ∷ 0xb9000a65
+    ∷ 0xb9000667 ∷ 0xb900166e ∷ 0x58000e49 ∷ 0xd63f0120 ∷ 0xb9400a65 ∷ 0xb9400e66 ∷ 0xb9400667 ∷ 0xb9401268
+    ∷ 0xb940166e ∷ 0x2a1803e1 ∷ 0x4b010000 ∷ 0x2a0003e1 ∷ 0x2a1703e0 ∷ 0x37000180 ∷ 0x37080160 ∷ 0x52a40002
+    ∷ 0x4b020003 ∷ 0x52800782 ∷ 0x6b02007f ∷ 0x540000c8 ∷ 0x53027c62 ∷ 0x38624b22 ∷ 0x35000062 ∷ 0xb8234aa1
+    ∷ 0x14000010 ∷ 0x2a0103e2 ∷ 0x2a0003e1 ∷ 0xaa1403e0 ∷ 0x11000f43 ∷ 0x52800084 ∷ 0xb9000a65 ∷ 0xb9000667
+    ∷ 0xb900166e ∷ 0x58000aa9 ∷ 0xd63f0120 ∷ 0xb9400a65 ∷ 0xb9400e66 ∷ 0xb9400667 ∷ 0xb9401268 ∷ 0xb940166e
+    ∷ 0xb9401a89 ∷ 0x34000129 ∷ 0xb9000a65 ∷ 0xb9000667 ∷ 0xb900166e ∷ 0x5280c109 ∷ 0x72a04009 ∷ 0xb9004a69
+    ∷ 0x11001340 ∷ 0x1400003b ∷ 0x2a0703e0 ∷ 0x5280c189 ∷ 0x72a04009 ∷ 0x0b090000 ∷ 0x52a40002 ∷ 0x4b020003
+    ∷ 0x12800022 ∷ 0x0a020063 ∷ 0x528007c2 ∷ 0x6b02007f ∷ 0x54000068 ∷ 0x78634aa0 ∷ 0x14000018 ∷ 0x52a04002
+    ∷ 0x4b020003 ∷ 0x12800022 ∷ 0x0a020063 ∷ 0x528001c2 ∷ 0x6b02007f ∷ 0x54000068 ∷ 0x78634ac0 ∷ 0x1400000f
+    ∷ 0x2a0003e1 ∷ 0xaa1403e0 ∷ 0x11001342 ∷ 0x52800043 ∷ 0xb9000a65 ∷ 0xb9000667 ∷ 0xb900166e ∷ 0x580004a9
+    ∷ 0xd63f0120 ∷ 0xb9400a65 ∷ 0xb9400e66 ∷ 0xb9400667 ∷ 0xb9401268 ∷ 0xb940166e ∷ 0x531f7800 ∷ 0x5280c189
+    ∷ 0x72a04009 ∷ 0x0b090000 ∷ 0xb9000a65 ∷ 0xb9000667 ∷ 0xb900166e ∷ 0x2a0003ec ∷ 0x1100175a ∷ 0xb9401a89
+    ∷ 0x35000129 ∷ 0x5301398a ∷ 0x580002cb ∷ 0x8b0a116b ∷ 0xb940016d ∷ 0x6b0c01bf ∷ 0x54000061 ∷ 0xf9400569
+    ∷ 0xd61f0120 ∷ 0xb9004a6c ∷ 0x2a1a03e0 ∷ 0x14000001 ∷ 0xa94573fb ∷ 0xa9446bf9 ∷ 0xa94363f7 ∷ 0xa9425bf5
+    ∷ 0xa94153f3 ∷ 0xa8c67bfd ∷ 0xd65f03c0 ∷ 0xd503201f ∷ 0x33334444 ∷ 0x11112222 ∷ 0x77778888 ∷ 0x55556666
+    ∷ 0xbbbbcccc ∷ 0x9999aaaa ∷ []
+unfolding blockWords blockLines blockCode sites starts addImm brkFirst even loads tryRegion extended alignTest mapTest stores call exitImm chain ind hold checkBrk fork limit load store stepCode stepCache stepsCode opening closing position latest oldest chosen spill slotFor seated ldReg stReg stored flushFrom flush reloadFrom reload mov32 places upFrom moveWords pushAll popAll lowered opSteps opsSteps blockSteps index add halves padOf baseOf words lines instrs wholeLines poolIn findIn linesWords
+sixth-words = refl
+
+pub sixth-sites : sites sixth ≡ []
+unfolding blockWords blockLines blockCode sites starts addImm brkFirst even loads tryRegion extended alignTest mapTest stores call exitImm chain ind hold checkBrk fork limit load store stepCode stepCache stepsCode opening closing position latest oldest chosen spill slotFor seated ldReg stReg stored flushFrom flush reloadFrom reload mov32 places upFrom moveWords pushAll popAll lowered opSteps opsSteps blockSteps index add halves padOf baseOf words lines instrs wholeLines poolIn findIn linesWords
+sixth-sites = refl

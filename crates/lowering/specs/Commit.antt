@@ -9,9 +9,13 @@ use Rattle.block.specs.declared.Width.{Width}
 use Rattle.block.specs.declared.Width.the-variants.{Byte as B8, Half as B16, Word as B32}
 use Rattle.block.specs.declared.Block.{Block}
 use Rattle.block.specs.declared.Base.{Base}
+use Rattle.block.specs.declared.Amount.{Amount}
+use Rattle.block.specs.declared.Op.{Op}
+use Rattle.block.specs.declared.Rk.{Rk}
 use Rattle.block.specs.declared.RmwOp.{RmwOp}
 use Rattle.block.specs.declared.Fast.{Fast}
 use Rattle.block.specs.declared.Fast.the-variants.{St, StIdx, StPost, Rmw, PushRet, BlockMove, PushRets, PopPc, LdPair, StPair}
+use Rattle.block.specs.declared.Fast.the-variants.{StPre, MemA4}
 use Rattle.code.specs.Items.{pick, tb}
 use Rattle.code.specs.Tree.{Depth, top, under, inner, Code, code, to, block, _then_, words, labels, jumps, Line, wholeLines, poolIn}
 use Rattle.code.specs.Tree.{linesWords}
@@ -107,6 +111,9 @@ pub record Counts (blk : Block) (i next : ℕ) : Type 0 where
   pub posted : (s b inc : ℕ) (w : Width) → testedIn blk (StPost s b w inc) i next ≡ pick (isWord w && blk .memory .map) 1 0
   pub modified : (b off v : ℕ) (w : Width) (op : RmwOp) → testedIn blk (Rmw b w op off v) i next ≡ pick (isWord w && blk .memory .map) 1 0
   pub ret-pushed : testedIn blk PushRet i next ≡ pick (blk .memory .map) 1 0
+  -- so do those of 2026-09
+  pub advanced : (s b : ℕ) (by : Amount) (w : Width) → testedIn blk (StPre s b by w) i next ≡ pick (isWord w && blk .memory .map) 1 0
+  pub combined : (b off rv : ℕ) (op : Op) (rk : Rk) → testedIn blk (MemA4 b off op rk rv) i next ≡ pick (blk .memory .map) 1 0
   -- "A group of 2026-01 is no word store here: it keeps its words"
   pub moved : (b mask : ℕ) (store post down : Bool) → testedIn blk (BlockMove b mask store post down) i next ≡ 0
   pub rets-pushed : (n : ℕ) → testedIn blk (PushRets n) i next ≡ 0

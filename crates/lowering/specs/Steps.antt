@@ -12,8 +12,10 @@ use Rattle.block.specs.declared.Cond.{Cond}
 use Rattle.block.specs.declared.Cond.the-variants.{Eq, Ne, LtU, GtU, LeU, GeU, LtS, GtS, LeS, GeS}
 use Rattle.block.specs.declared.Base.{Base}
 use Rattle.block.specs.declared.Base.the-variants.{Reg, Sp}
+use Rattle.block.specs.declared.Amount.{Amount}
+use Rattle.block.specs.declared.Amount.the-variants.{Reg as ByReg, Inc as ByInc}
 use Rattle.block.specs.declared.Width.{Width}
-use Rattle.block.specs.declared.Width.the-variants.{Word as B32}
+use Rattle.block.specs.declared.Width.the-variants.{Byte as B8, Half as B16, Word as B32}
 use Rattle.block.specs.declared.Rk.{Rk}
 use Rattle.block.specs.declared.Rk.the-variants.{Reg as RkReg, Imm as RkImm, Bit as RkBit}
 use Rattle.block.specs.declared.Part.{Part}
@@ -28,12 +30,12 @@ use Rattle.block.specs.declared.Fast.{Fast}
 use Rattle.block.specs.declared.Fast.the-variants.{Nop, MovI, Mov, AddRI, ShlI, SarI, Alu3, Alu3I, Alu2, Alu2I, A4, Ext, MinMax, Un, Div}
 use Rattle.block.specs.declared.Fast.the-variants.{Mov2, Mov2I, BitExt, BitIns, SpAdd, RFromSp, Ld, St, LdIdx, StIdx, LdPost, StPost, Rmw}
 use Rattle.block.specs.declared.Fast.the-variants.{PushRet, PopRets, BrI, BrR, DecBr, BitBr, Goto, Call, Rts, GotoR, CallR, PopRet}
-use Rattle.block.specs.declared.Fast.the-variants.{BlockMove, PushRets, PopPc, LdPair, StPair}
+use Rattle.block.specs.declared.Fast.the-variants.{BlockMove, PushRets, PopPc, LdPair, StPair, LdPre, StPre, LdPostR, MemA4, Tb}
 use Rattle.block.specs.declared.BOp.{BOp}
 use Rattle.block.specs.declared.Block.{Block}
 use Rattle.block.specs.Block.{opsOf, mayJump, usesBus, inFlash, members, span, saved, pairOf}
 use Rattle.code.specs.Items.{pick}
-use Rattle.lowering.specs.Instrs.{KEEP, ZR, EQ, NE, HS, LO, HI, LS, GE, LT, GT, LE, mov, movz, addI, subI, cmpI, add, addLsl, sub}
+use Rattle.lowering.specs.Instrs.{KEEP, KEEP2, ZR, EQ, NE, HS, LO, HI, LS, GE, LT, GT, LE, mov, movz, addI, subI, cmpI, add, addLsl, sub}
 use Rattle.lowering.specs.Instrs.{cmp, neg, and, bic, orr, eor, mvn, tst, rev, clz, sdiv, udiv, lslv, lsrv, asrv, mul, msub, csel}
 use Rattle.lowering.specs.Instrs.{cnegLt, ubfx, sbfx, lslI, lsrI, asrI}
 
@@ -47,7 +49,7 @@ pub data Step : Type 0 where
   ldField stField : Field → (t : ℕ) → Step  -- w(t) = the field, and back
   mov32 : (t v : ℕ) → Step
   addImm : (d s v : ℕ) → Step
-  ins : Instr → Step  -- an instruction on w0 to w4 and KEEP, and the flags
+  ins : Instr → Step  -- an instruction on w0 to w4, KEEP and KEEP2, and the flags
   load : Width → (signed : Bool) → (i : ℕ) → Step  -- w0 = what is at guest address w0
   store : Width → (alone : Bool) → (i : ℕ) → Step  -- w1 to guest address w0: a store of its own, or a word of a group
   checkBrk : (glue : Bool) → (pc count : ℕ) → Step  -- leave for pc if the break word is set
@@ -94,6 +96,11 @@ rhs RkBit rv = ldReg 2 (rv % 16) ∷ ins (movz 1 1) ∷ ins (lslv 1 1 2) ∷ []
 abbrev pub base : Base → Step
 base (Reg r) = ldReg 0 r
 base Sp = ldField sp 0
+
+-- w0 = w0 and an amount
+abbrev pub advance : Amount → List Step
+advance (ByReg r) = ldReg 1 r ∷ ins (add 0 0 1) ∷ []
+advance (ByInc v) = addImm 0 0 v ∷ []
 
 abbrev pub ext : Part → Bool → Instr
 ext PartByte false = ubfx 0 0 0 8
@@ -157,6 +164,11 @@ rmwValue RmwXor w v i = changed (eor 1 0 2) w v i
 rmwValue RmwAdd w v i = changed (add 1 0 2) w v i
 rmwValue RmwSub w v i = changed (sub 1 0 2) w v i
 rmwValue RmwMov w v i = mov32 1 v ∷ []
+
+-- the word at KEEP becomes op of it and KEEP2
+abbrev pub combined : Op → (i : ℕ) → List Step
+combined op i =
+    ins (mov 0 KEEP) ∷ load B32 false i ∷ ins (mov 1 KEEP2) ∷ ins (alu op) ∷ ins (mov 1 0) ∷ ins (mov 0 KEEP) ∷ store B32 true i ∷ []
 
 -- ---- groups
 -- minus v, in 32 bits
@@ -252,6 +264,13 @@ lowered (PopPc n) i next = popAll i (saved n) ++ (pop i (ins (mov KEEP 0)) ++ (i
 -- a pair is a group of two: `mov` of KEEP is `add_imm` of 0
 lowered (LdPair p b o) i next = base b ∷ addImm KEEP 0 o ∷ moveWords false i 0 (pairOf p)
 lowered (StPair p b o) i next = base b ∷ addImm KEEP 0 o ∷ moveWords true i 0 (pairOf p)
+lowered (LdPre d b by w signed) i next = ldReg 0 b ∷ (advance by ++ (stReg 0 b ∷ load w signed i ∷ stReg 0 d ∷ []))
+lowered (StPre s b by w) i next = ldReg 0 b ∷ (advance by ++ (stReg 0 b ∷ ldReg 1 s ∷ store w true i ∷ []))
+lowered (LdPostR d b x w signed) i next =
+    ldReg KEEP x ∷ ldReg 0 b ∷ load w signed i ∷ stReg 0 d ∷ ldReg 0 b ∷ ins (add 0 0 KEEP) ∷ stReg 0 b ∷ []
+lowered (MemA4 b off op rk rv) i next = rhs rk rv ++ (ins (mov KEEP2 1) ∷ ldReg 0 b ∷ addImm KEEP 0 off ∷ combined op i)
+lowered (Tb r half) i next =
+    ldReg 0 r ∷ addImm 0 0 next ∷ load (pick half B16 B8) false i ∷ ins (lslI 0 0 1) ∷ addImm 0 0 next ∷ ind 0 (i + 1) true ∷ []
 
 -- ---- emit_ops
 -- guest sums wrap

@@ -1,14 +1,13 @@
 -- The table of kinds: rules of all of its rows.
 use mathlib.Core.Path.{_≡_, refl, sym, _∙_}
-use mathlib.Core.Bool.{Bool, true, false, _&&_}
+use mathlib.Core.Bool.{Bool, true, false, _&&_, _||_}
 use mathlib.Core.List.{List, [], _∷_}
 use Prim.Native.Nat.{ℕ, zero, suc, _+_, _<_, _≤_}
 use native.Mathlib.Omega.{arith}
 use native.Mathlib.Nat.{not-suc-le-zero, le-of-suc-le-suc}
-use borrow.Author.Tests.{eqb-true}
-use lib.Dec.{T, leb, eqb, leb→le, eqb→eq}
-use lib.ListN.{length, getD, take}
-use lib.Seq.{getD-take}
+use borrow.Author.Tests.{eqb-true, leb-true, ltb-true}
+use lib.Dec.{T, leb, ltb, eqb, leb→le, eqb→eq}
+use lib.ListN.{length, getD}
 use Rattle.block.specs.declared.Fast.the-variants.{Nop}
 use Rattle.block.specs.Block.{kindOf, moved}
 use Rattle.operands.specs.Kinds.{Kind, kind, kinds, kindAt, fastOf}
@@ -36,18 +35,6 @@ pub at-most-six : (k : ℕ) → length (kindAt k .operands) ≤ 6
 unfolding short
 at-most-six k = leb→le (length (kindAt k .operands)) 6 (row short kinds _ tt tt k)
 
--- ---- kinds 0 to 39 are no groups
-
-still : (ℕ → ℕ) → Kind → Bool
-still x k = eqb (moved (k .fast x)) 0
-
-pub none-moved : (k : ℕ) (xs : List ℕ) → k < 40 → 0 ≡ moved (fastOf k xs)
-unfolding still
-none-moved k xs h =
-    let d : Kind = kind [] (λ x. Nop) in
-    let t = row (still (λ i. getD xs i 0)) (take 40 kinds) d tt tt k in
-    sym (eqb→eq _ 0 (rw (getD-take 40 kinds k d h) at t))
-
 -- ---- a kind's number
 
 -- rows that make operations of the numbers i, i + 1 .., whatever their operands
@@ -67,5 +54,26 @@ number-from x i (r ∷ rs) d h (suc k) l =
     e ∙ omega arith
 
 -- each row of the table makes an operation of its own number
-pub kind-number : (k : ℕ) (xs : List ℕ) → k < 45 → kindOf (fastOf k xs) ≡ k
+pub kind-number : (k : ℕ) (xs : List ℕ) → k < 50 → kindOf (fastOf k xs) ≡ k
 kind-number k xs h = number-from (λ i. getD xs i 0) 0 kinds _ refl k h ∙ omega arith
+
+-- ---- kinds 40 to 44 are the groups: no other moves words
+
+abbrev group : ℕ → Bool
+group k = leb 40 k && ltb k 45
+
+still : (ℕ → ℕ) → Kind → Bool
+still x k = group (kindOf (k .fast x)) || eqb (moved (k .fast x)) 0
+
+no-group : (k : ℕ) → (40 ≤ k → k < 45 → ⊥) → group k ≡ false
+no-group k h = cases (group k) refl
+  where
+    cases : (b : Bool) → group k ≡ b → b ≡ false
+    cases true e = let g = and-true-both (leb 40 k) (ltb k 45) e in absurd (h (leb-true 40 k (g .0)) (ltb-true k 45 (g .1)))
+    cases false e = refl
+
+pub none-moved : (k : ℕ) (xs : List ℕ) → k < 50 → (40 ≤ k → k < 45 → ⊥) → 0 ≡ moved (fastOf k xs)
+unfolding still
+none-moved k xs h n =
+    let t = row (still (λ i. getD xs i 0)) kinds (kind [] (λ x. Nop)) tt tt k in
+    sym (eqb→eq _ 0 (rw (kind-number k xs h, no-group k n) at t))

@@ -13,6 +13,8 @@ use Rattle.block.specs.declared.Cond.{Cond}
 use Rattle.block.specs.declared.Cond.the-variants.{Eq, Ne, LtU, GtU, LeU, GeU, LtS, GtS, LeS, GeS}
 use Rattle.block.specs.declared.Base.{Base}
 use Rattle.block.specs.declared.Base.the-variants.{Reg, Sp}
+use Rattle.block.specs.declared.Amount.{Amount}
+use Rattle.block.specs.declared.Amount.the-variants.{Reg as ByReg, Inc as ByInc}
 use Rattle.block.specs.declared.Width.{Width}
 use Rattle.block.specs.declared.Width.the-variants.{Byte as B8, Half as B16, Word as B32}
 use Rattle.block.specs.declared.Rk.{Rk}
@@ -26,7 +28,10 @@ use Rattle.block.specs.declared.UnKind.the-variants.{Not, Neg, Abs, Rev, Clz, S
 use Rattle.block.specs.declared.DivKind.{DivKind}
 use Rattle.block.specs.declared.DivKind.the-variants.{QuoS, QuoU, RemS, RemU}
 use Rattle.block.specs.declared.Fast.{Fast}
-use Rattle.block.specs.declared.Fast.the-variants.{Nop, MovI, Mov, AddRI, ShlI, SarI, Alu3, Alu3I, Alu2, Alu2I, A4, Ext, MinMax, Un, Div, Mov2, Mov2I, BitExt, BitIns, SpAdd, RFromSp, Ld, St, LdIdx, StIdx, LdPost, StPost, Rmw, PushRet, PopRets, BrI, BrR, DecBr, BitBr, Goto, Call, Rts, GotoR, CallR, PopRet, BlockMove, PushRets, PopPc, LdPair, StPair}
+use Rattle.block.specs.declared.Fast.the-variants.{Nop, MovI, Mov, AddRI, ShlI, SarI, Alu3, Alu3I, Alu2, Alu2I, A4, Ext, MinMax, Un, Div}
+use Rattle.block.specs.declared.Fast.the-variants.{Mov2, Mov2I, BitExt, BitIns, SpAdd, RFromSp, Ld, St, LdIdx, StIdx, LdPost, StPost, Rmw}
+use Rattle.block.specs.declared.Fast.the-variants.{PushRet, PopRets, BrI, BrR, DecBr, BitBr, Goto, Call, Rts, GotoR, CallR, PopRet}
+use Rattle.block.specs.declared.Fast.the-variants.{BlockMove, PushRets, PopPc, LdPair, StPair, LdPre, StPre, LdPostR, MemA4, Tb}
 
 -- what an operand may be
 pub data Class : Type 0 where
@@ -34,7 +39,8 @@ pub data Class : Type 0 where
 
 -- "Registers are 0 to 15; in kinds 21 and 22, b may be 16 for sp. w is 1, 2 or 4. signed and ne are 0 or 1. op is 0 to 10 ..; in
 -- Rmw 0 to 5 .. cond is 0 to 9 .. n, p, l, sh, part, kind, k, rk, mk are 0 to 255. v, off, inc, rv, mv, target are any 32 bits." Of the
--- groups: "The mask is 16 bits .. n is 0 to 15, p is 0 to 255 .., the three flags are 0 or 1, and b may be 16 in the pairs."
+-- groups: "The mask is 16 bits .. n is 0 to 15, p is 0 to 255 .., the three flags are 0 or 1, and b may be 16 in the pairs." Of the forms
+-- of 2026-09: "In 45 and 46 an i of 16 to 255 means the increment is used; in 47 i is a register; half is 0 or 1."
 abbrev pub fits : Class → ℕ → Bool
 fits reg x = leb x 15
 fits base x = leb x 16
@@ -83,6 +89,13 @@ pickBase false x = Sp
 
 abbrev pub baseOf : ℕ → Base
 baseOf x = pickBase (ltb x 16) x
+
+abbrev pub pickAmount : Bool → (i inc : ℕ) → Amount
+pickAmount true i inc = ByReg (low i)
+pickAmount false i inc = ByInc inc
+
+abbrev pub amountOf : (i inc : ℕ) → Amount
+amountOf i inc = pickAmount (ltb i 16) i inc
 
 abbrev pub widths : List Width
 widths = B8 ∷ B8 ∷ B16 ∷ []
@@ -178,6 +191,12 @@ kinds =
     ∷ kind (nib ∷ []) (λ x. PopPc (low (x 0)))
     ∷ kind (byte ∷ base ∷ any32 ∷ []) (λ x. LdPair (low (x 0)) (baseOf (x 1)) (x 2))
     ∷ kind (byte ∷ base ∷ any32 ∷ []) (λ x. StPair (low (x 0)) (baseOf (x 1)) (x 2))
+    ∷ kind (reg ∷ reg ∷ byte ∷ width ∷ flag ∷ any32 ∷ [])
+    (λ x. LdPre (low (x 0)) (low (x 1)) (amountOf (x 2) (x 5)) (widthOf (x 3)) (flagOf (x 4)))
+    ∷ kind (reg ∷ reg ∷ byte ∷ width ∷ any32 ∷ []) (λ x. StPre (low (x 0)) (low (x 1)) (amountOf (x 2) (x 4)) (widthOf (x 3)))
+    ∷ kind (reg ∷ reg ∷ reg ∷ width ∷ flag ∷ []) (λ x. LdPostR (low (x 0)) (low (x 1)) (low (x 2)) (widthOf (x 3)) (flagOf (x 4)))
+    ∷ kind (reg ∷ any32 ∷ aluOp ∷ byte ∷ any32 ∷ []) (λ x. MemA4 (low (x 0)) (x 1) (opOf (x 2)) (rkOf (x 3)) (x 4))
+    ∷ kind (reg ∷ flag ∷ []) (λ x. Tb (low (x 0)) (flagOf (x 1)))
     ∷ []
 
 -- the row of a kind

@@ -3,6 +3,7 @@ ghost use mathlib.Core.Path.{_≡_};
 ghost use Prim.Native.Nat.{_<_};
 ghost use Rattle.operands.specs.Kinds.{width, fits as fitsIn, fastOf};
 ghost use Rattle.operands.specs.Rows.{shapeOf};
+use crate::selectors::amount_of;
 use crate::selectors::base_of;
 use crate::selectors::choice_of;
 use crate::selectors::cond_of;
@@ -49,7 +50,7 @@ pub struct Shape {
 
 // Behind the operands that a kind has, the others do not matter.
 pub fn shape_of(kind: u8, x: [u32; 6]) -> Shape
-    requires { ⌜ kind < 45 ⌝ }
+    requires { ⌜ kind < 50 ⌝ }
     ensures { λ r. ⌜ r ≡ shapeOf kind x ⌝ }
 {
     let x0 = x[0];
@@ -236,16 +237,36 @@ pub fn shape_of(kind: u8, x: [u32; 6]) -> Shape
             count: 3,
             fit: (x0 <= BYTE) & (x1 <= BASE),
         },
-        _ => Shape {
+        44 => Shape {
             count: 3,
             fit: (x0 <= BYTE) & (x1 <= BASE),
+        },
+        45 => Shape {
+            count: 6,
+            fit: (x0 <= REG) & ((x1 <= REG) & ((x2 <= BYTE) & (is_width(x3) & (x4 <= FLAG)))),
+        },
+        46 => Shape {
+            count: 5,
+            fit: (x0 <= REG) & ((x1 <= REG) & ((x2 <= BYTE) & is_width(x3))),
+        },
+        47 => Shape {
+            count: 5,
+            fit: (x0 <= REG) & ((x1 <= REG) & ((x2 <= REG) & (is_width(x3) & (x4 <= FLAG)))),
+        },
+        48 => Shape {
+            count: 5,
+            fit: (x0 <= REG) & ((x2 <= OP) & (x3 <= BYTE)),
+        },
+        _ => Shape {
+            count: 2,
+            fit: (x0 <= REG) & (x1 <= FLAG),
         },
     }
 }
 
 // The operation that a kind makes of its operands.
 pub fn fast_of(kind: u8, x: [u32; 6]) -> Fast
-    requires { ⌜ kind < 45 ⌝ }
+    requires { ⌜ kind < 50 ⌝ }
     ensures { λ r. ⌜ r ≡ fastOf kind x ⌝ }
 {
     let x0 = x[0];
@@ -450,10 +471,41 @@ pub fn fast_of(kind: u8, x: [u32; 6]) -> Fast
             b: base_of(x1),
             off: x2,
         },
-        _ => Fast::StPair {
+        44 => Fast::StPair {
             p: r0,
             b: base_of(x1),
             off: x2,
+        },
+        45 => Fast::LdPre {
+            d: r0,
+            b: r1,
+            by: amount_of(x2, x5),
+            w: width_of(x3),
+            signed: x4 != 0,
+        },
+        46 => Fast::StPre {
+            s: r0,
+            b: r1,
+            by: amount_of(x2, x4),
+            w: width_of(x3),
+        },
+        47 => Fast::LdPostR {
+            d: r0,
+            b: r1,
+            i: r2,
+            w: width_of(x3),
+            signed: x4 != 0,
+        },
+        48 => Fast::MemA4 {
+            b: r0,
+            off: x1,
+            op: op_of(x2),
+            rk: rk_of(x3),
+            rv: x4,
+        },
+        _ => Fast::Tb {
+            r: r0,
+            half: x1 != 0,
         },
     }
 }

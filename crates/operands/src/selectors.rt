@@ -1,7 +1,8 @@
 // The operands that choose: a number to a case. A number above the cases is the last.
 ghost use mathlib.Core.Path.{_≡_};
-ghost use Rattle.operands.specs.Kinds.{opOf, rmwOpOf, condOf, baseOf, widthOf, rkOf, partOf, choiceOf, unKindOf, divKindOf};
+ghost use Rattle.operands.specs.Kinds.{opOf, rmwOpOf, condOf, baseOf, amountOf, widthOf, rkOf, partOf, choiceOf, unKindOf, divKindOf};
 use crate::numbers::low;
+use block::Amount;
 use block::Base;
 use block::Choice;
 use block::Cond;
@@ -68,6 +69,16 @@ pub fn base_of(x: u32) -> Base
         return Base::Reg(low(x));
     }
     Base::Sp
+}
+
+// Above the registers i chooses the increment, whatever it is.
+pub fn amount_of(i: u32, inc: u32) -> Amount
+    ensures { λ r. ⌜ r ≡ amountOf i inc ⌝ }
+{
+    if i < 16 {
+        return Amount::Reg(low(i));
+    }
+    Amount::Inc(inc)
 }
 
 pub fn width_of(x: u32) -> Width

@@ -17,7 +17,7 @@ use Rattle.operation.specs.Operation.{operandsFit, operands, tooLong, co
 
 pub record Contents (m : Memory) (p : List ℕ) : Type 0 where
   pub long : 3 ≤ length p
-  pub kind : byteAt p 0 < 45
+  pub kind : byteAt p 0 < 50
   pub size : length p ≡ 3 + 4 * length (kindAt (byteAt p 0) .operands)
   pub glue : byteAt p 2 ≤ 1
   pub fit : operandsFit (kindAt (byteAt p 0) .operands) p 0 ≡ true
@@ -40,7 +40,7 @@ contents-of m p e =
       group = gives-zero _ 3 (f .1);
     }
 
--- "Kinds 30 to 39 jump", and "PopPc jumps"
-pub jumps : (p : List ℕ) → byteAt p 0 < 45 → jumping (byteAt p 0) ≡ mayJump (operationOf p .fast)
+-- "Kinds 30 to 39 jump", and "PopPc jumps", and Tb
+pub jumps : (p : List ℕ) → byteAt p 0 < 50 → jumping (byteAt p 0) ≡ mayJump (operationOf p .fast)
 unfolding operationOf
 jumps p h = ap jumping (sym (kind-number (byteAt p 0) (operands p) h))

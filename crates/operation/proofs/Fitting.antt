@@ -8,9 +8,9 @@ use borrow.Author.Tests.{leb-true, ltb-true}
 use lib.Dec.{ltb}
 use lib.ListN.{getD}
 use Rattle.block.specs.declared.Fast.{Fast}
-use Rattle.block.specs.Checked.{BaseFits, FastFits}
+use Rattle.block.specs.Checked.{BaseFits, AmountFits, FastFits}
 use Rattle.operands.specs.Kinds.{Class, reg, base, any32, byte, flag, width, aluOp, rmwOp, cond, mask, nib, fits}
-use Rattle.operands.specs.Kinds.{pickBase, baseOf, Kind, kind, kinds, kindAt, fastOf}
+use Rattle.operands.specs.Kinds.{pickBase, baseOf, pickAmount, amountOf, Kind, kind, kinds, kindAt, fastOf}
 use Rattle.operands.proofs.Laws.{and-true-both}
 use Rattle.operation.specs.Operation.{operand, operands, operandsFit}
 
@@ -58,6 +58,13 @@ base-fits x h = cases (ltb x 16) refl
     cases : (b : Bool) → ltb x 16 ≡ b → BaseFits (pickBase b x)
     cases true e = let l : x < 16 = ltb-true x 16 e in omega arith
     cases false e = tt
+
+amount-fits : (i inc : ℕ) → inc < 4294967296 → AmountFits (amountOf i inc)
+amount-fits i inc h = cases (ltb i 16) refl
+  where
+    cases : (b : Bool) → ltb i 16 ≡ b → AmountFits (pickAmount b i inc)
+    cases true e = let l : i < 16 = ltb-true i 16 e in omega arith
+    cases false e = h
 
 infixr 20 _and_
 _and_ : {A B : Type 0} → A → B → A × B
@@ -118,6 +125,11 @@ fitting =
     and (λ p f. omega arith)
     and (λ p f. (omega arith, base-fits _ (f .1 .0), omega arith))
     and (λ p f. (omega arith, base-fits _ (f .1 .0), omega arith))
+    and (λ p f. (omega arith, omega arith, amount-fits (operand p 2) _ (f .1 .1 .1 .1 .1 .0)))
+    and (λ p f. (omega arith, omega arith, amount-fits (operand p 2) _ (f .1 .1 .1 .1 .0)))
+    and (λ p f. (omega arith, omega arith, omega arith))
+    and (λ p f. (omega arith, omega arith, omega arith))
+    and (λ p f. omega arith)
     and tt
 
 fitting-at : (rs : List Kind) (d : Kind) → Fitting rs → ((p : List ℕ) → FastFits (made d p))

@@ -18,9 +18,9 @@ fn saved_and(n: u8) -> u32
     n as u32 - 2
 }
 
-// The words that a group moves, rets and pc included. A kind below 40 is no group and moves none.
+// The words that a group moves, rets and pc included. Kinds 40 to 44 are the groups; any other moves none.
 pub fn moved(kind: u8, x: [u32; 6]) -> u32
-    requires { ⌜ kind < 45 ⌝ }
+    requires { ⌜ kind < 50 ⌝ }
     ensures { λ r. ⌜ r ≡ movedBy (fastOf kind x) ⌝ }
 {
     match kind {

@@ -43,7 +43,7 @@ pub fn decode(m: Memory, p: &[u8]) -> Operation
         return Operation::Fault(2);
     }
     let kind = byte(p, 0);
-    if 45 <= kind {
+    if 50 <= kind {
         return Operation::Fault(3);
     }
     let x = operands_of(p);

@@ -20,6 +20,8 @@ use Rattle.block.specs.declared.Cond.{Cond}
 use Rattle.block.specs.declared.Cond.the-variants.{Eq, Ne, LtU, GtU, LeU, GeU, LtS, GtS, LeS, GeS}
 use Rattle.block.specs.declared.Base.{Base}
 use Rattle.block.specs.declared.Base.the-variants.{Reg, Sp}
+use Rattle.block.specs.declared.Amount.{Amount}
+use Rattle.block.specs.declared.Amount.the-variants.{Reg as ByReg, Inc as ByInc}
 use Rattle.block.specs.declared.Width.{Width}
 use Rattle.block.specs.declared.Width.the-variants.{Byte as B8, Half as B16, Word as B32}
 use Rattle.block.specs.declared.Rk.{Rk}
@@ -36,7 +38,7 @@ use Rattle.block.specs.declared.Fast.{Fast}
 use Rattle.block.specs.declared.Fast.the-variants.{Nop, MovI, Mov, AddRI, ShlI, SarI, Alu3, Alu3I, Alu2, Alu2I, A4, Ext, MinMax, Un, Div}
 use Rattle.block.specs.declared.Fast.the-variants.{Mov2, Mov2I, BitExt, BitIns, SpAdd, RFromSp, Ld, St, LdIdx, StIdx, LdPost, StPost, Rmw}
 use Rattle.block.specs.declared.Fast.the-variants.{PushRet, PopRets, BrI, BrR, DecBr, BitBr, Goto, Call, Rts, GotoR, CallR, PopRet}
-use Rattle.block.specs.declared.Fast.the-variants.{BlockMove, PushRets, PopPc, LdPair, StPair}
+use Rattle.block.specs.declared.Fast.the-variants.{BlockMove, PushRets, PopPc, LdPair, StPair, LdPre, StPre, LdPostR, MemA4, Tb}
 use Rattle.block.specs.declared.BOp.{BOp}
 use Rattle.block.specs.declared.Layout.{Layout}
 use Rattle.block.specs.declared.Guard.{Guard}
@@ -53,7 +55,7 @@ use Rattle.lowering.specs.Cache.{POOL, host, FREE, emptyCache, offReg, oldest, 
 use Rattle.lowering.specs.Cache.{flush, reloadFrom, reload}
 use Rattle.lowering.specs.Cache.{ldReg as ldRegCode, stReg as stRegCode}
 use Rattle.lowering.specs.Steps.{Step, lowered, opSteps, opsSteps, blockSteps, behind, alu, acond, ext, choice, rhs, base, un, div, low}
-use Rattle.lowering.specs.Steps.{rmwValue, moveWords, moveBase, pushAll, popAll}
+use Rattle.lowering.specs.Steps.{advance, rmwValue, moveWords, moveBase, pushAll, popAll}
 use Rattle.lowering.specs.Fragments.{minus, addImm, brkFirst, even, loads, tryRegion, extended, alignTest, mapTest, stores, call, exitImm}
 use Rattle.lowering.specs.Fragments.{chain, ind, hold, checkBrk, fork, limit, guard, load, store, stepCode, stepCache, stepsCode, opening}
 use Rattle.lowering.specs.Fragments.{closing}
@@ -363,6 +365,11 @@ base-known : (x : Base) → StepKnown (base x)
 base-known (Reg r) = tt
 base-known Sp = tt
 
+advance-known : (x : Amount) → AllKnown (advance x)
+unfolding hasEncoder encoders
+advance-known (ByReg r) = (tt, (refl, tt))
+advance-known (ByInc v) = (tt, tt)
+
 un-known : (k : UnKind) → AllKnown (un k)
 unfolding hasEncoder encoders
 un-known Not = (refl, tt)
@@ -482,6 +489,12 @@ kind-known (PopPc n) i next =
     all-append (popAll i (saved n)) _ (pops-known i (saved n)) (tt, (tt, (refl, (tt, (refl, (tt, (tt, tt)))))))
 kind-known (LdPair p y off) i next = (base-known y, (tt, moves-known false i 0 (pairOf p)))
 kind-known (StPair p y off) i next = (base-known y, (tt, moves-known true i 0 (pairOf p)))
+kind-known (LdPre d y x w signed) i next = (tt, all-append (advance x) _ (advance-known x) (tt, (tt, (tt, tt))))
+kind-known (StPre s y x w) i next = (tt, all-append (advance x) _ (advance-known x) (tt, (tt, (tt, tt))))
+kind-known (LdPostR d y x w signed) i next = (tt, (tt, (tt, (tt, (tt, (refl, (tt, tt)))))))
+kind-known (MemA4 y off op rk rv) i next =
+    all-append (rhs rk rv) _ (rhs-known rk rv) (refl, (tt, (tt, (refl, (tt, (refl, (alu-known op, (refl, (refl, (tt, tt))))))))))
+kind-known (Tb r half) i next = (tt, (tt, (tt, (refl, (tt, (tt, tt))))))
 
 pub op-known : (o : BOp) (i next : ℕ) → AllKnown (opSteps o i next)
 unfolding opSteps

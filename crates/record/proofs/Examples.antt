@@ -1,5 +1,5 @@
 -- Document 01's examples, by computation of the definition: the empty block of the listing, and an example of each of reading's faults;
--- and layouts, groups and RAM blocks on both sides of their tests.
+-- and layouts, groups, the forms of 2026-09 and RAM blocks on both sides of their tests.
 use mathlib.Core.Path.{_≡_, refl}
 use mathlib.Core.List.{List, [], _∷_, _++_}
 use Prim.Native.Nat.{ℕ, zero, suc, _/_, _%_}
@@ -80,8 +80,8 @@ fault-9 : answer (listing ++ operation 36 ++ operation 0) ≡ Refused 9 83
 unfolding answer
 fault-9 = refl
 
--- kind 45
-fault-3 : answer (listing ++ operation 45) ≡ Refused 3 77
+-- kind 50
+fault-3 : answer (listing ++ operation 50) ≡ Refused 3 77
 unfolding answer
 fault-3 = refl
 
@@ -189,6 +189,68 @@ pops :
 unfolding answer
 pops = (refl, refl, refl)
 
+-- ---- forms of 2026-09: "In 45 and 46 an i of 16 to 255 means the increment is used; in 47 i is a register; half is 0 or 1."
+
+-- LdPre, StPre and LdPostR of a word, with this i; an increment takes 4 off
+abbrev loadPre : (i : ℕ) → List ℕ
+loadPre i = (5 ∷ 27 ∷ 0 ∷ 45 ∷ 2 ∷ 0 ∷ []) ++ word 1 ++ word 2 ++ word i ++ word 4 ++ word 0 ++ word 0xfffffffc
+
+abbrev storePre : (i : ℕ) → List ℕ
+storePre i = (5 ∷ 23 ∷ 0 ∷ 46 ∷ 2 ∷ 0 ∷ []) ++ word 1 ++ word 2 ++ word i ++ word 4 ++ word 0xfffffffc
+
+abbrev loadPost : (i : ℕ) → List ℕ
+loadPost i = (5 ∷ 23 ∷ 0 ∷ 47 ∷ 2 ∷ 0 ∷ []) ++ word 1 ++ word 2 ++ word i ++ word 4 ++ word 0
+
+-- MemA4 at the ends of b, off and rv
+abbrev memory : (op rk : ℕ) → List ℕ
+memory op rk = (5 ∷ 23 ∷ 0 ∷ 48 ∷ 2 ∷ 0 ∷ []) ++ word 15 ++ word 0xffffffff ++ word op ++ word rk ++ word 0xffffffff
+
+-- Tb
+abbrev table : (half : ℕ) → List ℕ
+table half = (5 ∷ 11 ∷ 0 ∷ 49 ∷ 2 ∷ 0 ∷ []) ++ word 15 ++ word half
+
+-- i is the last register, then the first and the last number that means the increment; the number behind it
+loads-before :
+    (answer (listing ++ loadPre 15 ++ loadPre 16 ++ loadPre 255) ≡ Accepted)
+    × (answer (listing ++ loadPre 256) ≡ Refused 4 77)
+unfolding answer
+loads-before = (refl, refl)
+
+stores-before :
+    (answer (listing ++ storePre 15 ++ storePre 16 ++ storePre 255) ≡ Accepted)
+    × (answer (listing ++ storePre 256) ≡ Refused 4 77)
+unfolding answer
+stores-before = (refl, refl)
+
+-- i is the last register, and the number behind it
+loads-behind :
+    (answer (listing ++ loadPost 15) ≡ Accepted)
+    × (answer (listing ++ loadPost 16) ≡ Refused 4 77)
+unfolding answer
+loads-behind = (refl, refl)
+
+-- the last op and the last rk, and the number behind each
+memories :
+    (answer (listing ++ memory 10 255) ≡ Accepted)
+    × (answer (listing ++ memory 11 0) ≡ Refused 4 77)
+    × (answer (listing ++ memory 0 256) ≡ Refused 4 77)
+unfolding answer
+memories = (refl, refl, refl)
+
+-- of bytes, of halfwords, half = 2; Tb, Nop
+tables :
+    (answer (listing ++ table 0) ≡ Accepted)
+    × (answer (listing ++ table 1) ≡ Accepted)
+    × (answer (listing ++ table 2) ≡ Refused 4 77)
+    × (answer (listing ++ table 0 ++ operation 0) ≡ Refused 9 91)
+unfolding answer
+tables = (refl, refl, refl, refl)
+
+-- none of them is a group: the shortest regions are long enough
+no-groups : answer (regions 4 4 ++ loadPre 0 ++ storePre 0 ++ loadPost 0 ++ memory 0 0 ++ table 0) ≡ Accepted
+unfolding answer
+no-groups = refl
+
 -- ---- RAM blocks: "A record may carry tag 06, 16 bytes, directly behind tag 04"
 
 -- fields 01 to 04 of a block that starts here; RAM is 01000000 to 0100ffff
@@ -253,7 +315,7 @@ fault-17 :
 unfolding answer
 fault-17 = (refl, refl, refl)
 
--- "after all fields": kind 45 behind an operation that reaches past RAM's end
-before-17 : answer (from 0x0100ffff ++ guard ++ operation 0 ++ operation 45) ≡ Refused 3 102
+-- "after all fields": kind 50 behind an operation that reaches past RAM's end
+before-17 : answer (from 0x0100ffff ++ guard ++ operation 0 ++ operation 50) ≡ Refused 3 102
 unfolding answer
 before-17 = refl

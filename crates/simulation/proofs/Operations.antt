@@ -14,12 +14,12 @@ use lib.Dec.{eqb, ltb}
 use lib.ListN.{length, length-take}
 use Rattle.arm.specs.declared.Size.the-variants.{W}
 use Rattle.block.specs.declared.Cond.the-variants.{Eq, Ne}
-use Rattle.block.specs.declared.Width.the-variants.{Word as B32}
+use Rattle.block.specs.declared.Width.the-variants.{Byte as B8, Half as B16, Word as B32}
 use Rattle.block.specs.declared.Fast.{Fast}
 use Rattle.block.specs.declared.Fast.the-variants.{Nop, MovI, Mov, AddRI, ShlI, SarI, Alu3, Alu3I, Alu2, Alu2I, A4, Ext, MinMax, Un, Div}
 use Rattle.block.specs.declared.Fast.the-variants.{Mov2, Mov2I, BitExt, BitIns, SpAdd, RFromSp, Ld, St, LdIdx, StIdx, LdPost, StPost, Rmw}
 use Rattle.block.specs.declared.Fast.the-variants.{PushRet, PopRets, BrI, BrR, DecBr, BitBr, Goto, Call, Rts, GotoR, CallR, PopRet}
-use Rattle.block.specs.declared.Fast.the-variants.{BlockMove, PushRets, PopPc, LdPair, StPair}
+use Rattle.block.specs.declared.Fast.the-variants.{BlockMove, PushRets, PopPc, LdPair, StPair, LdPre, StPre, LdPostR, MemA4, Tb}
 use Rattle.block.specs.declared.Memory.{Memory}
 use Rattle.block.specs.declared.BOp.{BOp}
 use Rattle.block.specs.declared.Block.{Block}
@@ -33,7 +33,7 @@ use Rattle.machine.specs.Memory.{bytesOf}
 use Rattle.machine.specs.Execute.{Helpers}
 use Rattle.card.specs.Card.{Card, arrive, reg, rhs, setReg, addSp, versionAt}
 use Rattle.card.specs.Card.{guard as cardGuard}
-use Rattle.card.specs.Word.{minus, holds}
+use Rattle.card.specs.Word.{plus, minus, holds}
 use Rattle.card.specs.Memory.{Access, got, unmet, ask}
 use Rattle.card.specs.Memory.{load as loadCard}
 use lib.Bits.{bitAnd}
@@ -188,6 +188,11 @@ module _ (m : Memory) (flash : List ℕ) (i next : ℕ) (c : Card) where
   jump-out (PopPc n) e = pops-out m flash i _ (pc-out m flash i) (saved n) c
   jump-out (LdPair p b o) e = no-jump e
   jump-out (StPair p b o) e = no-jump e
+  jump-out (LdPre d b x w signed) e = no-jump e
+  jump-out (StPre s b x w) e = no-jump e
+  jump-out (LdPostR d b x w signed) e = no-jump e
+  jump-out (MemA4 b o op rk rv) e = no-jump e
+  jump-out (Tb r half) e = loaded-out (loadCard m flash i (cond half B16 B8) false (plus (reg c r) next) c) _ (λ v c₁. looked-out i _ c₁)
 
 jump-leaves : (b : Block) (flash : List ℕ) (o : BOp) (i next : ℕ) (c d : Card) → mayJump (o .fast) ≡ true
     → checked o i next (opStep (b .memory) flash i next (o .fast) c) ≡ on d → ⊥

@@ -79,7 +79,7 @@ fn text(number: u32) -> &'static str {
         2 => "a tag that is not due, or a length that is not the field's",
         8 => "a 33rd operation",
         9 => "an operation behind a jump",
-        3 => "an operation's kind above 44",
+        3 => "an operation's kind above 49",
         4 => "a flag or an operand out of range, or a group that moves more bytes than RAM or XIP has",
         5 => "an offset, or regs plus 60, of 16384 or more",
         14 => "an offset that is no multiple of 4",

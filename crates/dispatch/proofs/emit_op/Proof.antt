@@ -272,6 +272,36 @@ returns-45 c =
     arm _ _ _ _ _ _ _ _ _ _ _ (c₁ .before .before .before .before .fast40 .given .1)
     (c₁ .st-pair .ensures _)
 
+returns-46 : tie.Need-returns-46
+returns-46 c =
+    let c₁ = c .before .before in
+    arm _ _ _ _ _ _ _ _ _ _ _ (c₁ .before .before .before .before .fast41 .given .1)
+    (c₁ .ld-pre .ensures _)
+
+returns-47 : tie.Need-returns-47
+returns-47 c =
+    let c₁ = c .before .before in
+    arm _ _ _ _ _ _ _ _ _ _ _ (c₁ .before .before .before .before .fast42 .given .1)
+    (c₁ .st-pre .ensures _)
+
+returns-48 : tie.Need-returns-48
+returns-48 c =
+    let c₁ = c .before .before in
+    arm _ _ _ _ _ _ _ _ _ _ _ (c₁ .before .before .before .before .fast43 .given .1)
+    (c₁ .ld-post-r .ensures _)
+
+returns-49 : tie.Need-returns-49
+returns-49 c =
+    let c₁ = c .before .before in
+    arm _ _ _ _ _ _ _ _ _ _ _ (c₁ .before .before .before .before .fast44 .given .1)
+    (c₁ .mem-a4 .ensures _)
+
+returns-50 : tie.Need-returns-50
+returns-50 c =
+    let c₁ = c .before .before in
+    arm _ _ _ _ _ _ _ _ _ _ _ (c₁ .before .before .before .before .fast45 .given .1)
+    (c₁ .tb .ensures refl)
+
 pub emit-op-spec : {M : Type 1} → statement M
 emit-op-spec =
     tie.close
@@ -290,7 +320,9 @@ emit-op-spec =
     (λ c. search needs) (λ c κs. search needs) (λ c. search needs) (λ c κs. search needs) (λ c. search needs) (λ c κs. search needs)
     (λ c. search needs) (λ c κs. search needs) (λ c. search needs) (λ c κs. search needs) (λ c. search needs) (λ c κs. search needs)
     (λ c. search needs) (λ c κs. search needs) (λ c. search needs) (λ c κs. search needs) (λ c. search needs) (λ c κs. search needs)
-    (λ c. search needs) (λ c κs. search needs) (λ c. search needs) (λ c κs. search needs)
+    (λ c. search needs) (λ c κs. search needs) (λ c. search needs) (λ c κs. search needs) (λ c. search needs) (λ c κs. search needs)
+    (λ c. search needs) (λ c κs. search needs) (λ c. search needs) (λ c κs. search needs) (λ c. search needs) (λ c κs. search needs)
+    (λ c. search needs) (λ c κs. search needs)
     returns
     (λ c. search needs) returns-2 (λ c. search needs) returns-3 (λ c. search needs) returns-4 (λ c. search needs) returns-5
     (λ c. search needs) returns-6 (λ c. search needs) returns-7 (λ c. search needs) returns-8 (λ c. search needs) returns-9
@@ -302,4 +334,6 @@ emit-op-spec =
     (λ c. search needs) returns-30 (λ c. search needs) returns-31 (λ c. search needs) returns-32 (λ c. search needs) returns-33
     (λ c. search needs) returns-34 (λ c. search needs) returns-35 (λ c. search needs) returns-36 (λ c. search needs) returns-37
     (λ c. search needs) returns-38 (λ c. search needs) returns-39 (λ c. search needs) returns-40 (λ c. search needs) returns-41
-    (λ c. search needs) returns-42 (λ c. search needs) returns-43 (λ c. search needs) returns-44 (λ c. search needs) returns-45)
+    (λ c. search needs) returns-42 (λ c. search needs) returns-43 (λ c. search needs) returns-44 (λ c. search needs) returns-45
+    (λ c. search needs) returns-46 (λ c. search needs) returns-47 (λ c. search needs) returns-48 (λ c. search needs) returns-49
+    (λ c. search needs) returns-50)

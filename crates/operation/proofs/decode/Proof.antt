@@ -39,7 +39,8 @@ group-is m k p given e f = sym (f ∙ ap (tooLong m) (e ∙ ap (λ (ys : List �
 -- a kind below 40 is no group
 none-long : (m : Memory) (k : ℕ) (p : List ℕ) → k < 40 → tooLong m (moved (fastOf k (operands p))) ≡ false
 none-long m k p h =
-    rw (← none-moved k (operands p) h, le-ltb (m .«ram_len») 0 (omega arith), le-ltb (m .«xip_len») 0 (omega arith))
+    let none = none-moved k (operands p) (omega arith) (λ from below. omega (arith, h, from)) in
+    rw (← none, le-ltb (m .«ram_len») 0 (omega arith), le-ltb (m .«xip_len») 0 (omega arith))
 
 returns : tie.Need-returns
 unfolding contentsFault
@@ -47,7 +48,7 @@ returns c = rw (lt-ltb _ _ (c .if1 .taken))
 
 returns-2 : tie.Need-returns-2
 unfolding contentsFault
-returns-2 c = rw (le-ltb _ _ (c .before .before .if1 .left), ← c .before .byte .ensures, le-leb _ _ (c .if2 .taken))
+returns-2 c = rw (le-ltb _ _ (c .before .before .if1 .left), ← c .before .byte .ensures, le-leb 50 _ (c .if2 .taken))
 
 mul-if3 : tie.Need-mul-if3
 mul-if3 c =

@@ -1,4 +1,4 @@
--- `moved` meets its contract: the ones of a mask are its registers, and a kind below 40 is no group.
+-- `moved` meets its contract: the ones of a mask are its registers, and a kind without an arm is no group.
 use borrow.Author.Needs.{needs}
 use Rattle.operation.proofs.lengths.moved.Statement.{statement}
 use Rattle.operation.proofs.lengths.moved.Tie as tie
@@ -24,7 +24,10 @@ returns-3 : tie.Need-returns-3
 returns-3 c = rw (c .before .before .match .keys3) (words (c .saved-and2 .ensures) (c .before .low2 .ensures))
 
 returns-6 : tie.Need-returns-6
-returns-6 c = let s = c .before in none-moved (s .args .kind) (s .args .t2) (omega (arith, s .pre, c .match .rest))
+returns-6 c =
+    let s = c .before in
+    let others = c .match .rest in
+    none-moved (s .args .kind) (s .args .t2) (s .pre) (λ from below. omega (arith, from, below, others))
 
 pub moved-spec : {M : Type 1} → statement M
 moved-spec =
