@@ -28,7 +28,8 @@ use Rattle.code.proofs.Fetch.{words-length}
 use Rattle.lowering.specs.declared.RegCache.{RegCache}
 use Rattle.lowering.specs.Instrs.{KEEP, KEEP2, mov}
 use Rattle.lowering.specs.Cache.{emptyCache}
-use Rattle.lowering.specs.Steps.{Step, base, rhs, advance, combined, rmwValue, lowered, moveWords, moveBase, pop, pushAll, popAll, blockSteps}
+use Rattle.lowering.specs.Steps.{Step, base, rhs, advance, combined, rmwValue, lowered, moveWords, moveBase, pop, pushAll, popAll}
+use Rattle.lowering.specs.Steps.{blockSteps}
 use Rattle.lowering.specs.Fragments.{alignTest, store, stepCode, stepCache, stepsCode, closing}
 use Rattle.lowering.specs.Compile.{blockCode, blockLines, blockWords, starts, targets, zipSites, sites}
 use Rattle.lowering.specs.Commit.{commitStep, commitCode, commitLines, commitWords, commitSites, Adds, same, tests, both, isWord}

@@ -35,9 +35,9 @@ use Rattle.block.specs.declared.BOp.{BOp}
 use Rattle.block.specs.declared.Block.{Block}
 use Rattle.block.specs.Block.{opsOf, mayJump, usesBus, inFlash, members, span, saved, pairOf}
 use Rattle.code.specs.Items.{pick}
-use Rattle.lowering.specs.Instrs.{KEEP, KEEP2, ZR, EQ, NE, HS, LO, HI, LS, GE, LT, GT, LE, mov, movz, addI, subI, cmpI, add, addLsl, sub}
-use Rattle.lowering.specs.Instrs.{cmp, neg, and, bic, orr, eor, mvn, tst, rev, clz, sdiv, udiv, lslv, lsrv, asrv, mul, msub, csel}
-use Rattle.lowering.specs.Instrs.{cnegLt, ubfx, sbfx, lslI, lsrI, asrI}
+use Rattle.lowering.specs.Instrs.{KEEP, KEEP2, ZR, EQ, NE, HS, LO, HI, LS, GE, LT, GT, LE, mov, movz, addI, subI, cmpI, add}
+use Rattle.lowering.specs.Instrs.{addLsl, sub, cmp, neg, and, bic, orr, eor, mvn, tst, rev, clz, sdiv, udiv, lslv, lsrv, asrv, mul}
+use Rattle.lowering.specs.Instrs.{msub, csel, cnegLt, ubfx, sbfx, lslI, lsrI, asrI}
 
 -- the processor record's numbers that are no registers
 pub data Field : Type 0 where
