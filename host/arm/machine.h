@@ -19,8 +19,8 @@ struct registers {
     uint64_t x[31];
     uint64_t sp;
     uint64_t nzcv;
-    uint64_t d[8];  /* d8 to d15 */
-    uint64_t back;  /* of a call alone: where the block goes on */
+    uint64_t d[8]; /* d8 to d15 */
+    uint64_t back; /* of a call alone: where the block goes on */
 };
 
 /* enter.S */

@@ -1,4 +1,4 @@
-/* Regions by mmap. Before its use every byte of a region's pages is junk, and behind it all of them are compared, those around the region too. */
+/* Regions by mmap. Before its use every byte of a region's pages is junk, and behind it all of them are compared. */
 #include "regions.h"
 
 #include <stdio.h>
@@ -26,15 +26,32 @@ static void failed(const char *what) {
     exit(2);
 }
 
+static size_t page_bytes(void) {
+    return (size_t)sysconf(_SC_PAGESIZE);
+}
+
+/* Pages that trap, at this address or, if it is 0, anywhere. Null where they cannot be had. */
+static uint8_t *pages_at(uint64_t address, size_t bytes) {
+    void *want = (void *)(uintptr_t)address;
+    void *got = mmap(want, bytes, PROT_NONE, MAP_PRIVATE | MAP_ANONYMOUS | (address == 0 ? 0 : MAP_FIXED_NOREPLACE), -1, 0);
+    return got == MAP_FAILED || (address != 0 && got != want) ? NULL : got;
+}
+
+int reachable(uint64_t address) {
+    size_t page = page_bytes();
+    uint8_t *there = pages_at(address - address % page, page);
+    return there != NULL && munmap(there, page) == 0;
+}
+
 region lay(size_t bytes, placing how, uint64_t written) {
-    size_t page = (size_t)sysconf(_SC_PAGESIZE), before = how == WRITTEN ? written % page : 0;
+    size_t page = page_bytes(), before = how == WRITTEN ? written % page : 0;
     region r = {.bytes = bytes, .pages = (before + bytes + page - 1) / page * page};
-    uint8_t *want = how == WRITTEN ? (uint8_t *)(uintptr_t)(written - before - page) : NULL, *room;
+    uint8_t *room;
     if (bytes == 0) {
         return r;
     }
-    room = mmap(want, r.pages + 2 * page, PROT_NONE, MAP_PRIVATE | MAP_ANONYMOUS | (want == NULL ? 0 : MAP_FIXED_NOREPLACE), -1, 0);
-    if (room == MAP_FAILED || (want != NULL && room != want)) {
+    room = pages_at(how == WRITTEN ? written - before - page : 0, r.pages + 2 * page);
+    if (room == NULL) {
         failed("mmap");
     }
     r.page = room + page;
@@ -51,9 +68,8 @@ region lay(size_t bytes, placing how, uint64_t written) {
 }
 
 void release(region *r) {
-    size_t page = (size_t)sysconf(_SC_PAGESIZE);
     if (r->bytes != 0) {
-        munmap(r->page - page, r->pages + 2 * page);
+        munmap(r->page - page_bytes(), r->pages + 2 * page_bytes());
         free(r->due);
     }
     *r = (region){0};

@@ -24,6 +24,9 @@ uint64_t junk(void);
 region lay(size_t bytes, placing how, uint64_t written);
 void release(region *r);
 
+/* Whether memory can be had at such an address: the runs' are above 2^39, where some kernels have none. */
+int reachable(uint64_t address);
+
 /* What the region holds, from an offset on. */
 void put(region *r, size_t offset, const void *from, size_t bytes);
 void put32(region *r, size_t offset, uint32_t v);

@@ -8,8 +8,9 @@
  *     run stack RUNS..            how much stack the library's functions take, of the runs' records
  *     run flip COUNT SEED RUNS..  a bit flipped in words that are run: of four at least three must end otherwise, trap, or not end
  *
- * RUNS are the files of tests/oracle/runs, in order. variants.h says what is made of a run, scene.c what is compared. Each end is seen in three
- * placings of the regions (regions.h). Prints counts, and a line for each difference; the exit status is 0 where there is none.
+ * RUNS are the files of tests/oracle/runs, in order. variants.h says what is made of a run, scene.c what is compared. Each end is seen in
+ * three placings of the regions (regions.h), in two where the kernel has no memory at the runs' addresses. Prints counts, and a line for
+ * each difference; the exit status is 0 where there is none.
  */
 #include <stdio.h>
 #include <stdlib.h>
@@ -60,6 +61,7 @@ static int told(const counts *c) {
 }
 
 static int play_mode(const struct mode *mode, const runs *all) {
+    placing first = reachable(all->run[0].places[STACK_PLACE]) ? WRITTEN : AT_END;
     counts c = {0};
     for (size_t i = 0; i < all->count; i++) {
         for (size_t k = 0; k < 2 && mode->variant[k] != NULL; k++) {
@@ -67,7 +69,7 @@ static int play_mode(const struct mode *mode, const runs *all) {
             reason why = mode->variant[k](&s);
             c.without[why]++;
             if (why == PLAYED) {
-                play_placings(&c, &s, WRITTEN);
+                play_placings(&c, &s, first);
             }
         }
     }
@@ -157,8 +159,8 @@ static int flip(const runs *all, unsigned long count, uint64_t from) {
         seen[apart(play_variants, &s)]++;
     }
     printf("words drawn %lu, run %lu\n", drawn, count);
-    printf("with a bit flipped end otherwise %lu, trap %lu, do not end %lu, end as written %lu\n", seen[OTHERWISE], seen[TRAPPED], seen[UNENDING],
-           seen[AS_DUE]);
+    printf("with a bit flipped end otherwise %lu, trap %lu, do not end %lu, end as written %lu\n", seen[OTHERWISE], seen[TRAPPED],
+           seen[UNENDING], seen[AS_DUE]);
     return 4 * seen[AS_DUE] > count || count == 0;
 }
 

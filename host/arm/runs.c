@@ -218,10 +218,24 @@ static void count(reader *r) {
 static const struct line {
     const char *word;
     void (*read)(reader *);
-} LINES[] = {{"block", block},       {"start", start},     {"regs", regs},   {"cells", cells},         {"versions", versions},
-             {"ram", ram},           {"xip", xip},         {"map", map},     {"places", places},       {"entry", table_entry},
-             {"outcome", outcome_line}, {"end", end},      {"read", read_request}, {"write", write_request}, {"guard", guard_request},
-             {"count", count}};
+} LINES[] = {
+    {"block", block},
+    {"start", start},
+    {"regs", regs},
+    {"cells", cells},
+    {"versions", versions},
+    {"ram", ram},
+    {"xip", xip},
+    {"map", map},
+    {"places", places},
+    {"entry", table_entry},
+    {"outcome", outcome_line},
+    {"end", end},
+    {"read", read_request},
+    {"write", write_request},
+    {"guard", guard_request},
+    {"count", count},
+};
 
 static void read_line(reader *r, const char *key) {
     for (size_t i = 0; i < sizeof LINES / sizeof *LINES; i++) {

@@ -8,7 +8,7 @@
 /* The most that a file may have of each for a run, of memory in bytes; of outcomes and requests there is room for two more. */
 enum { MOST_ENTRIES = 8, MOST_OUTCOMES = 64, MOST_REQUESTS = 64, MOST_MEMORY = 256 };
 
-/* What the card has: at the start `pc` is the old number in the processor record, at the end the card's, and `limit` is the start's alone. */
+/* What the card has. At the start `pc` is the processor record's old number, at the end the card's; `limit` is the start's alone. */
 typedef struct state {
     uint32_t regs[16];
     uint32_t sp, rets, hold, brk, pc, done, limit;

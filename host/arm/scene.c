@@ -1,8 +1,8 @@
-/* A run on the processor, step by step: regions are laid, the record is translated into one, start and expected end are written down, the block is
- * entered (enter.S), its requests are met as the outcomes say, and all that it left is compared.
+/* A run on the processor, step by step: regions are laid, the record is translated into one, start and expected end are written down, the
+ * block is entered (enter.S), its requests are met as the outcomes say, and all that it left is compared.
  *
- * Code, stack, processor record, context, RAM, XIP, code map, jump table and guard have a page on each side that traps; code, XIP and jump table
- * cannot be written. What premises leave open is junk: other registers, flags, upper halves, what a call alters, bytes around.
+ * Code, stack, processor record, context, RAM, XIP, code map, jump table and guard have a page on each side that traps; code, XIP and jump
+ * table cannot be written. What premises leave open is junk: other registers, flags, upper halves, what a call alters, bytes around.
  */
 #include "scene.h"
 
@@ -285,7 +285,7 @@ static int same_request(const request *due, const request *q) {
            due->width == q->width && due->index == q->index;
 }
 
-/* RAM, map, break word and versions are the outcome's from then on. What the outside kept must be so already: stores made before are in it. */
+/* RAM, map, break word and versions are then the outcome's. What the outside kept must be so already: earlier stores are in it. */
 static void meet(const scene *s, const outcome *o) {
     differs(o->ram_kept && memcmp(now.of[RAM].at, o->ram, s->run.ram_bytes) != 0, "RAM at a request");
     differs(o->map_kept && s->run.map_bytes != 0 && memcmp(now.of[MAP].at, o->map, s->run.map_bytes) != 0, "the code map at a request");
@@ -332,6 +332,11 @@ uint32_t answer_ram_ok(const void *context, const void *guard) {
 
 /* ---- the end */
 
+/* The address of the chain site by which the run leaves: behind a link the other block's only one. */
+static uint64_t site_address(const scene *s) {
+    return s->linking == TO_OTHER ? base(OTHER) + 4 * (uint64_t)now.other.site[0].at : base(CODE) + 4 * (uint64_t)s->run.site;
+}
+
 static void expect_memory(const scene *s) {
     for (int i = STACK; i < REGIONS; i++) {
         settle(&now.of[i]);
@@ -341,8 +346,7 @@ static void expect_memory(const scene *s) {
         expect32(&now.of[CPU], offset(&s->block, PC), s->run.end.pc);
     }
     if (s->run.left == BY_CHAIN) {
-        expect64(&now.of[CONTEXT], SLOT, s->linking == TO_OTHER ? base(OTHER) + 4 * (uint64_t)now.other.site[0].at
-                                                               : base(CODE) + 4 * (uint64_t)s->run.site);
+        expect64(&now.of[CONTEXT], SLOT, site_address(s));
     }
     for (int i = 0; i < FRAME_REGISTERS; i++) {
         expect64(&now.of[STACK], 8 * (size_t)i, now.caller[in_frame[i]]);
@@ -350,8 +354,9 @@ static void expect_memory(const scene *s) {
 }
 
 static void compare_memory(void) {
-    static const char *const NAME[REGIONS] = {"",  "", "the stack", "the processor record", "the context", "RAM", "XIP", "the code map", "the jump table",
-                                              "the guard", "the helpers"};
+    static const char *const NAME[REGIONS] = {"",           "",    "the stack",    "the processor record", "the context",
+                                              "RAM",        "XIP", "the code map", "the jump table",       "the guard",
+                                              "the helpers"};
     for (int i = STACK; i < REGIONS; i++) {
         differs(!as_due(&now.of[i]), NAME[i]);
     }

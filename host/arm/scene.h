@@ -9,10 +9,10 @@
 
 typedef enum { ALONE, FROM_OTHER, TO_OTHER, TO_ITSELF } linking;
 
-/* Start, outcomes and the end that is due are `run`'s; the block is `block`'s. Another block may stand beside it: FROM_OTHER the run starts there,
- * at its first word or body, and the jump table has the block's body; TO_OTHER the chain site at word `linked` is linked with its body,
- * TO_ITSELF with that of the block, and the end is that behind the link. Where `altered` the word at `word` is changed to
- * (w & keep) ^ flip. A quiet scene prints nothing, and has less time. */
+/* Start, outcomes and the end that is due are `run`'s; the block is `block`'s. Another block may stand beside it: FROM_OTHER the run starts
+ * there, at its first word or body, and the jump table has the block's body; TO_OTHER the chain site at word `linked` is linked with its
+ * body, TO_ITSELF with that of the block, and the end is that behind the link. Where `altered`, of the word at `word` the bits of `keep`
+ * stay, the others are 0, and those of `flip` are flipped. A quiet scene prints nothing, and has less time. */
 typedef struct scene {
     run run;
     record block, other;

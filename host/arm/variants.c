@@ -246,8 +246,8 @@ enum { LOOP_PC = 0x02000000, LOOP_STEP = 3, LOOP_OPERATIONS = 2, LOOP_ROUNDS = L
 
 /* Document 01's layout, RAM and XIP of four bytes each. Register 0 rises, register 1 falls; on to the start while it is not 0. */
 static record loop_record(void) {
-    static const uint8_t head[77] = {1, 20, 0, 0, 0, 0, 0, 64, 0, 0, 0, 68, 0, 0, 0, 72, 0, 0, 0, 76, 0, 0, 0, 2, 17, 0,
-                                     0, 0,  0, 1, 4, 0, 0, 0,  0, 0, 0, 2,  4, 0, 0, 0,  0, 3, 24, 0, [70] = 4, 4, 0, 0, 0, 0, 2};
+    static const uint8_t head[77] = {1, 20, 0, 0, 0, 0, 0, 64, 0, 0, 0, 68, 0, 0, 0, 72, 0, 0,  0, 76,       0, 0, 0, 2, 17, 0, 0,
+                                     0, 0,  1, 4, 0, 0, 0, 0,  0, 0, 2, 4,  0, 0, 0, 0,  3, 24, 0, [70] = 4, 4, 0, 0, 0, 0,  2};
     record r = record_of(head, sizeof head);
     operation(&r, ADD_RI, 2, 3, (uint32_t[]){0, 0, LOOP_STEP});
     operation(&r, DEC_BR, 2, 4, (uint32_t[]){1, 1, 0, LOOP_PC});

@@ -5,15 +5,15 @@
 #include "scene.h"
 
 /* Why a run has no such variant. */
-#define REASONS(X)                                                                        \
-    X(PLAYED, "")                                                                         \
-    X(UNBOUNDED, "no operation, so that each limit from the done count on holds it")      \
-    X(BROKEN, "the break word is set, so that the other block leaves by the return")      \
-    X(ABOVE_LIMIT, "the done count is above the limit, so that no block enters another")  \
-    X(TOO_MANY, "done plus operations, and those of the other block, would reach 2^32")   \
-    X(TABLED, "the table's entry for the block is the run's own")                         \
-    X(NO_BYTE, "no table byte leads to the block")                                        \
-    X(UNCHAINED, "it leaves otherwise than by a chain site")                              \
+#define REASONS(X)                                                                       \
+    X(PLAYED, "")                                                                        \
+    X(UNBOUNDED, "no operation, so that each limit from the done count on holds it")     \
+    X(BROKEN, "the break word is set, so that the other block leaves by the return")     \
+    X(ABOVE_LIMIT, "the done count is above the limit, so that no block enters another") \
+    X(TOO_MANY, "done plus operations, and those of the other block, would reach 2^32")  \
+    X(TABLED, "the table's entry for the block is the run's own")                        \
+    X(NO_BYTE, "no table byte leads to the block")                                       \
+    X(UNCHAINED, "it leaves otherwise than by a chain site")                             \
     X(NO_START, "no block can start at the site's target")
 
 #define REASON_NAME(name, text) name,

@@ -1,5 +1,5 @@
-/* A host on an Arm board: translates a block of seven operations, puts its words into executable memory and calls it. The helpers, which stand
- * for the outside, say what they are asked.
+/* A host on an Arm board: translates a block of seven operations, puts its words into executable memory and calls it. The helpers, which
+ * stand for the outside, say what they are asked.
  *
  * For AArch64 Linux: host/arm/test.sh builds and runs it.
  */
@@ -75,8 +75,8 @@ static void operation(int kind, int operands, const uint32_t *operand) {
 }
 
 static void make_record(void) {
-    static const uint32_t offset[5] = {offsetof(processor, regs), offsetof(processor, sp), offsetof(processor, rets), offsetof(processor, pc),
-                                       offsetof(processor, hold)};
+    static const uint32_t offset[5] = {offsetof(processor, regs), offsetof(processor, sp), offsetof(processor, rets),
+                                       offsetof(processor, pc), offsetof(processor, hold)};
     field(1, 20);
     for (int i = 0; i < 5; i++) {
         put(offset[i], 4);
@@ -93,13 +93,13 @@ static void make_record(void) {
     put((uintptr_t)jump_table, 8);
     field(4, 4);
     put(0x02000100, 4);
-    operation(1, 2, (uint32_t[]){3, 0x12345678});     /* MovI r3 */
-    operation(1, 2, (uint32_t[]){4, 0x01000010});     /* MovI r4, in RAM */
-    operation(22, 4, (uint32_t[]){3, 4, 4, 4});       /* St r3 at r4 + 4 */
-    operation(21, 5, (uint32_t[]){5, 4, 4, 2, 1});    /* Ld r5 from there, a signed halfword */
-    operation(1, 2, (uint32_t[]){4, 0x40000000});     /* MovI r4, the device */
-    operation(21, 5, (uint32_t[]){6, 4, 8, 1, 0});    /* Ld r6 from it, a byte */
-    operation(22, 4, (uint32_t[]){6, 4, 12, 4});      /* St r6 to it */
+    operation(1, 2, (uint32_t[]){3, 0x12345678});  /* MovI r3 */
+    operation(1, 2, (uint32_t[]){4, 0x01000010});  /* MovI r4, in RAM */
+    operation(22, 4, (uint32_t[]){3, 4, 4, 4});    /* St r3 at r4 + 4 */
+    operation(21, 5, (uint32_t[]){5, 4, 4, 2, 1}); /* Ld r5 from there, a signed halfword */
+    operation(1, 2, (uint32_t[]){4, 0x40000000});  /* MovI r4, the device */
+    operation(21, 5, (uint32_t[]){6, 4, 8, 1, 0}); /* Ld r6 from it, a byte */
+    operation(22, 4, (uint32_t[]){6, 4, 12, 4});   /* St r6 to it */
 }
 
 /* ---- the block */
@@ -116,8 +116,8 @@ static int run(const uint32_t *code, const werfund_answer *block) {
     block_code *call = (block_code *)(uintptr_t)code;
     uint32_t done = call(&cpu, &c, ram, xip, 100, NULL), word;
     memcpy(&word, ram + 0x14, sizeof word);
-    printf("done %u, pc %08x, r3 %08x, r5 %08x, r6 %08x, RAM %08x\n", (unsigned)done, (unsigned)cpu.pc, (unsigned)cpu.regs[3], (unsigned)cpu.regs[5],
-           (unsigned)cpu.regs[6], (unsigned)word);
+    printf("done %u, pc %08x, r3 %08x, r5 %08x, r6 %08x, RAM %08x\n", (unsigned)done, (unsigned)cpu.pc, (unsigned)cpu.regs[3],
+           (unsigned)cpu.regs[5], (unsigned)cpu.regs[6], (unsigned)word);
     printf("left by the site at word %u, listed %u\n", (unsigned)(c.slot - code), (unsigned)block->site[0].at);
     return c.slot == code + block->site[0].at ? 0 : 1;
 }
