@@ -120,6 +120,15 @@ int as_due(const region *r) {
     return r->bytes == 0 || memcmp(r->page, r->due, r->pages) == 0;
 }
 
+ptrdiff_t first_other(const region *r, uint8_t *due) {
+    size_t i = 0;
+    while (i < r->pages - 1 && r->page[i] == r->due[i]) {
+        i++;
+    }
+    *due = r->due[i];
+    return (ptrdiff_t)i - (r->at - r->page);
+}
+
 void protect(region *r, int protection) {
     if (r->bytes == 0) {
         return;

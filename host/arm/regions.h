@@ -39,6 +39,9 @@ void expect32(region *r, size_t offset, uint32_t v);
 void expect64(region *r, size_t offset, uint64_t v);
 int as_due(const region *r);
 
+/* The first byte that is not, by its offset from the region's begin, which is negative before it; and what is due there. */
+ptrdiff_t first_other(const region *r, uint8_t *due);
+
 /* What may be done with it from now on, of PROT_READ, PROT_WRITE and PROT_EXEC. The instruction cache is told before it is executed. */
 void protect(region *r, int protection);
 

@@ -6,8 +6,10 @@
  */
 #include "scene.h"
 
+#include <inttypes.h>
 #include <setjmp.h>
 #include <signal.h>
+#include <stdarg.h>
 #include <stdio.h>
 #include <stdlib.h>
 #include <string.h>
@@ -43,13 +45,20 @@ static struct world {
 
 struct registers call;
 
-static void differs(int differ, const char *what) {
+/* A line, unless the scene is quiet: the run, and what of it. */
+__attribute__((format(printf, 2, 3))) static void differs(int differ, const char *form, ...) {
     static const char *const PLACING[PLACINGS] = {"as written", "at a page's end", "at a page's start"};
-    if (differ) {
-        now.otherwise = 1;
-        if (!now.s->quiet) {
-            printf("%s, %s: %s\n", now.s->run.name, PLACING[now.s->placing], what);
-        }
+    va_list what;
+    if (!differ) {
+        return;
+    }
+    now.otherwise = 1;
+    if (!now.s->quiet) {
+        va_start(what, form);
+        printf("%s, %s: ", now.s->run.name, PLACING[now.s->placing]);
+        vprintf(form, what);
+        printf("\n");
+        va_end(what);
     }
 }
 
@@ -98,7 +107,7 @@ static void lay_regions(const scene *s) {
     }
 }
 
-/* Where the run writes the helpers' addresses, a jump to each; else the addresses that they have here, and those of table and guard. */
+/* Where the run writes the helpers' addresses: a jump to each. */
 static void lay_helpers(const record *r) {
     static const int of[3] = {READ_ADDRESS, WRITE_ADDRESS, RAM_OK_ADDRESS};
     const uint32_t *const helper[3] = {h_read, h_write, h_ram_ok};
@@ -118,6 +127,7 @@ static void lay_helpers(const record *r) {
     protect(&now.of[HELPERS], PROT_READ | PROT_EXEC);
 }
 
+/* Elsewhere: the addresses that they have here, and those of table and guard. */
 static void set_addresses(record *r) {
     set_address(r, READ_ADDRESS, number(h_read));
     set_address(r, WRITE_ADDRESS, number(h_write));
@@ -142,15 +152,20 @@ werfund_answer translated(region *code, const record *r, placing how, uint64_t w
     return answer;
 }
 
-/* The branch to a body, at the block's site, which must be listed for that target. */
-static void link_site(uint32_t at, uint32_t target, uint64_t body) {
+/* Whether the block has a chain site at that word, listed for that target. */
+static int listed(uint32_t at, uint32_t target) {
     const werfund_answer *a = &now.block;
-    uint32_t word;
-    int listed = 0;
+    int found = 0;
     for (size_t i = 0; i < a->sites; i++) {
-        listed = listed || (a->site[i].at == at && a->site[i].target == target);
+        found = found || (a->site[i].at == at && a->site[i].target == target);
     }
-    if (!listed || werfund_link_checked((int64_t)(base(CODE) + 4 * (uint64_t)at), (int64_t)body, &word) != WERFUND_ACCEPTED) {
+    return found;
+}
+
+/* The branch to a body, at the block's site for that target. */
+static void link_site(uint32_t at, uint32_t target, uint64_t body) {
+    uint32_t word;
+    if (!listed(at, target) || werfund_link_checked((int64_t)(base(CODE) + 4 * (uint64_t)at), (int64_t)body, &word) != WERFUND_ACCEPTED) {
         differs(1, "a link");
     } else {
         put32(&now.of[CODE], 4 * (size_t)at, word);
@@ -285,6 +300,18 @@ static int same_request(const request *due, const request *q) {
            due->width == q->width && due->index == q->index;
 }
 
+typedef struct text {
+    char chars[80];
+} text;
+
+static text said(const request *q) {
+    static const char *const KIND[] = {"read", "write", "guard"};
+    text t;
+    snprintf(t.chars, sizeof t.chars, "%s %" PRIx64 " value %x width %u index %x", KIND[q->kind], q->address, (unsigned)q->value,
+             (unsigned)q->width, (unsigned)q->index);
+    return t;
+}
+
 /* RAM, map, break word and versions are then the outcome's. What the outside kept must be so already: earlier stores are in it. */
 static void meet(const scene *s, const outcome *o) {
     differs(o->ram_kept && memcmp(now.of[RAM].at, o->ram, s->run.ram_bytes) != 0, "RAM at a request");
@@ -305,11 +332,13 @@ static uint32_t answered(const void *context, request q) {
     uint32_t answer = (uint32_t)junk();
     differs(number(context) != base(CONTEXT), "a call's context");
     differs(sp != base(STACK), "sp at a call");
-    if (now.asked < r->request_count && now.asked < r->outcome_count && same_request(&r->requests[now.asked], &q)) {
+    if (now.asked >= r->request_count || now.asked >= r->outcome_count) {
+        differs(1, "a request more: %s", said(&q).chars);
+    } else if (!same_request(&r->requests[now.asked], &q)) {
+        differs(1, "a request: %s, due %s", said(&q).chars, said(&r->requests[now.asked]).chars);
+    } else {
         meet(now.s, &r->outcomes[now.asked]);
         answer = r->outcomes[now.asked].answer;
-    } else {
-        differs(1, "a request");
     }
     now.asked++;
     call = any_registers();
@@ -358,25 +387,30 @@ static void compare_memory(void) {
                                               "RAM",        "XIP", "the code map", "the jump table",       "the guard",
                                               "the helpers"};
     for (int i = STACK; i < REGIONS; i++) {
-        differs(!as_due(&now.of[i]), NAME[i]);
+        if (!as_due(&now.of[i])) {
+            uint8_t due;
+            ptrdiff_t at = first_other(&now.of[i], &due);
+            differs(1, "%s at byte %td is %02x, due %02x", NAME[i], at, now.of[i].at[at], due);
+        }
     }
 }
 
 /* At the return W0 is the done count, and the caller has its registers and sp again. */
 static void compare_return(const scene *s) {
-    differs((uint32_t)now.end.x[0] != s->run.end.done, "the done count");
+    const struct registers *e = &now.end;
+    differs((uint32_t)e->x[0] != s->run.end.done, "the done count is %x, due %x", (unsigned)e->x[0], (unsigned)s->run.end.done);
     for (int i = 19; i <= 30; i++) {
-        differs(now.end.x[i] != now.caller[i], "a register of the caller's");
+        differs(e->x[i] != now.caller[i], "register %d is %" PRIx64 ", the caller's was %" PRIx64, i, e->x[i], now.caller[i]);
     }
-    differs(now.end.sp != base(STACK) + FRAME, "sp");
+    differs(e->sp != base(STACK) + FRAME, "sp has moved by %" PRId64, (int64_t)(e->sp - base(STACK) - FRAME));
 }
 
 /* At a table jump W12 and W26 are pc and done count, and the body has what it starts with. */
 static void compare_jump(const scene *s) {
     const uint64_t *x = now.end.x;
-    differs((uint32_t)x[12] != s->run.end.pc, "pc in register 12");
-    differs((uint32_t)x[26] != s->run.end.done, "the done count in register 26");
-    differs((uint32_t)x[27] != s->run.start.limit, "the limit in register 27");
+    differs((uint32_t)x[12] != s->run.end.pc, "pc in register 12 is %x, due %x", (unsigned)x[12], (unsigned)s->run.end.pc);
+    differs((uint32_t)x[26] != s->run.end.done, "the done count in register 26 is %x, due %x", (unsigned)x[26], (unsigned)s->run.end.done);
+    differs((uint32_t)x[27] != s->run.start.limit, "the limit in register 27 is %x, due %x", (unsigned)x[27], (unsigned)s->run.start.limit);
     differs(x[19] != base(CPU) || x[20] != base(CONTEXT) || x[21] != base(RAM) || x[22] != base(XIP), "an address for the body");
     differs(now.of[MAP].bytes != 0 && x[25] != base(MAP), "the code map's address for the body");
     differs(now.end.sp != base(STACK), "sp at a table jump");
@@ -389,13 +423,14 @@ static void compare(const scene *s, int out) {
         due = s->run.entries[i].body == s->run.body ? (int)i : due;
     }
     differs(out != due, "the way out");
+    differs(s->run.left == BY_CHAIN && s->linking != TO_OTHER && !listed(s->run.site, s->run.end.pc), "the site's target");
     if (out == -1) {
         compare_return(s);
     } else {
         compare_jump(s);
     }
     differs(memcmp(now.end.d, now.start.d, sizeof now.end.d) != 0, "one of d8 to d15");
-    differs(now.asked != s->run.request_count, "the number of requests");
+    differs(now.asked != s->run.request_count, "%zu requests, due %zu", now.asked, s->run.request_count);
     compare_memory();
 }
 
@@ -421,8 +456,13 @@ size_t depth(size_t deepest, uint64_t function, size_t count, const uint64_t *ar
 /* ---- a scene */
 
 static sigjmp_buf trap;
+static volatile sig_atomic_t playing;
 
+/* A trap outside a scene is a fault of the program's own. */
 static void trapped(int signal) {
+    if (!playing) {
+        _exit(3);
+    }
     siglongjmp(trap, signal);
 }
 
@@ -450,11 +490,13 @@ result play(const scene *s) {
     int signal;
     prepare(s);
     signal = sigsetjmp(trap, 1);
-    if (signal == 0) {
+    playing = signal == 0;
+    if (playing) {
         alarm(s->quiet ? 5 : 60);
         compare(s, enter(&now.start, first_pc(s), &now.end));
+        playing = 0;
     } else {
-        differs(1, signal == SIGALRM ? "it does not end" : strsignal(signal));
+        differs(1, "%s", signal == SIGALRM ? "it does not end" : strsignal(signal));
     }
     alarm(0);
     for (int i = 0; i < REGIONS; i++) {

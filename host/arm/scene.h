@@ -41,7 +41,7 @@ size_t depth(size_t deepest, uint64_t function, size_t count, const uint64_t *ar
 /* Traps and the alarm are seen from then on; once, before the first scene. */
 void watch(void);
 
-/* A line for each difference, unless it is quiet. */
+/* A line for each difference. */
 result play(const scene *s);
 
 #endif
