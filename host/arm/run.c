@@ -5,6 +5,7 @@
  *     run jump RUNS..             each entered from another block by a table jump
  *     run link RUNS..             each that leaves by a chain site, the site linked with another block's body
  *     run loop                    a block linked with itself
+ *     run count RUNS..            where each starts, how many instructions it is to execute and how many words it has; then it is run so
  *     run stack RUNS..            how much stack the library's functions take, of the runs' records
  *     run flip COUNT SEED RUNS..  a bit flipped in words that are run: of four at least three must end otherwise, trap, or not end
  *
@@ -12,6 +13,7 @@
  * three placings of the regions (regions.h), in two where the kernel has no memory at the runs' addresses. Prints counts, and a line for
  * each difference; the exit status is 0 where there is none.
  */
+#include <inttypes.h>
 #include <stdio.h>
 #include <stdlib.h>
 #include <string.h>
@@ -85,6 +87,22 @@ static int loop(void) {
         play_placings(&c, &s, AT_END);
     }
     return told(&c);
+}
+
+/* ---- instructions */
+
+/* At the address that the run writes, so that a trace of the processor can be held beside it: an instruction cannot be seen from here. */
+static int count(const runs *all) {
+    int different = 0;
+    for (size_t i = 0; i < all->count; i++) {
+        scene s = scene_of(&all->run[i]);
+        region code;
+        werfund_answer a = translated(&code, &s.block, AT_END, 0);
+        release(&code);
+        printf("%016" PRIx64 " %u %u\n", s.run.places[CODE_PLACE] + (s.run.at_body ? a.body : 0), s.run.instructions, (unsigned)a.words);
+        different |= play(&s) != AS_DUE;
+    }
+    return different;
 }
 
 /* ---- the stack of a call */
@@ -167,7 +185,7 @@ static int flip(const runs *all, unsigned long count, uint64_t from) {
 /* ---- */
 
 static int usage(void) {
-    fprintf(stderr, "run written|limit|jump|link|stack RUNS.. | run loop | run flip COUNT SEED RUNS..\n");
+    fprintf(stderr, "run written|limit|jump|link|count|stack RUNS.. | run loop | run flip COUNT SEED RUNS..\n");
     return 2;
 }
 
@@ -181,6 +199,9 @@ int main(int argc, char **argv) {
     watch();
     if (strcmp(name, "loop") == 0) {
         return loop();
+    }
+    if (strcmp(name, "count") == 0 && all.count != 0) {
+        return count(&all);
     }
     if (strcmp(name, "stack") == 0 && all.count != 0) {
         return stacks(&all);

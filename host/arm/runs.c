@@ -210,9 +210,10 @@ static void guard_request(reader *r) {
     asked(r, GUARDS);
 }
 
-/* Operations and instructions: not seen from outside. */
+/* Operations, which the done count tells too, and instructions. */
 static void count(reader *r) {
-    numbers(r, (uint64_t[2]){0}, 2);
+    number32(r);
+    r->now->instructions = number32(r);
 }
 
 static const struct line {

@@ -60,6 +60,7 @@ typedef struct run {
     uint64_t body;
     request requests[MOST_REQUESTS + 2];
     size_t request_count;
+    unsigned instructions;
 } run;
 
 typedef struct runs {

@@ -46,6 +46,23 @@ frozen() {
     printf '%s\n' "$said" | diff - "host/arm/frozen/$1.out" && printf '%s\n' "$said"
 }
 
+# The emulator tells each instruction that is executed in the blocks' code. Run by run as many as the run counts, from its start on, and no more
+# than it has words.
+executed() {
+    local each=-singlestep
+    qemu-aarch64 -help | grep one-insn-per-tb >/dev/null && each=-one-insn-per-tb
+    $emulated $each -d exec,nochain -dfilter 0x1000000000+0x1000000 -D "$out/executed" "$out/run" count "${runs[@]}" >"$out/counted" || return
+    awk '
+        FNR == NR { start[++runs] = $1; due[runs] = $2; over += $2 > $3; next }
+        { split($0, part, "/") }
+        left == 0 { other += part[2] != start[++run]; left = due[run] }
+        { left--; executed++ }
+        END {
+            print "runs " run ", instructions executed " executed ", otherwise " other + 0 ", more than words " over + 0
+            exit run != runs || left != 0 || other || over
+        }' "$out/counted" "$out/executed"
+}
+
 x86_64() { cksum target/staticlib/libwerfund.a 2>/dev/null; }
 
 mkdir -p "$out"
@@ -73,6 +90,7 @@ before=$(x86_64)
     run "runs entered from another block" frozen jump "${runs[@]}"
     run "runs on over a linked site" frozen link "${runs[@]}"
     run "a block linked with itself" frozen loop
+    run "instructions executed" executed
     run "a flipped bit shows" $emulated "$out/run" flip 200 1 "${runs[@]}"
     run "stack of the library's calls" $emulated "$out/run" stack "${runs[@]}"
 }
