@@ -9,7 +9,7 @@
 #define BACK 328
 
 /* Landing pads, of two words each. */
-#define PADS 8
+#define PADS 64
 
 #ifndef __ASSEMBLER__
 

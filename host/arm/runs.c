@@ -259,12 +259,13 @@ static run *named(const reader *r, runs *all, const char *name) {
     while (i < all->count && strcmp(all->run[i].name, name) != 0) {
         i++;
     }
-    if (i == all->count) {
-        all->run = realloc(all->run, ++all->count * sizeof *all->run);
+    if (i == all->count && (i & (i - 1)) == 0) { /* room is doubled */
+        all->run = realloc(all->run, (i == 0 ? 1 : 2 * i) * sizeof *all->run);
         if (all->run == NULL) {
             wrong(r, "no memory");
         }
     }
+    all->count += i == all->count;
     all->run[i] = (run){.name = strcpy(room(r, strlen(name)), name)};
     return &all->run[i];
 }

@@ -5,8 +5,9 @@
 #include <stddef.h>
 #include <stdint.h>
 
-/* The most that a file may have of each for a run, of memory in bytes; of outcomes and requests there is room for two more. */
-enum { MOST_ENTRIES = 8, MOST_OUTCOMES = 64, MOST_REQUESTS = 64, MOST_MEMORY = 256 };
+/* The most that a run may have of each, of memory in bytes. No block asks more often: 32 operations, of 17 words at most, and a guard. Of
+ * outcomes there may be some to spare; of both there is room for two that another block asks for. */
+enum { MOST_ENTRIES = 64, MOST_REQUESTS = 32 * 17 + 1, MOST_OUTCOMES = MOST_REQUESTS + 16, MOST_MEMORY = 4096 };
 
 /* What the card has. At the start `pc` is the processor record's old number, at the end the card's; `limit` is the start's alone. */
 typedef struct state {
