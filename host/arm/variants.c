@@ -140,8 +140,14 @@ static uint32_t addend(uint32_t d) {
     return 0x01000193u * (d + 1);
 }
 
-static record visitor(const record *block, uint32_t pc, uint8_t length) {
+/* An operation's guest length: in RAM none, so that the block does not reach past its end. */
+static uint8_t length_at(uint32_t pc) {
+    return in_flash(pc) ? 2 : 0;
+}
+
+static record visitor(const record *block, uint32_t pc) {
     record r = another(block, pc);
+    uint8_t length = length_at(pc);
     for (uint32_t d = 0; d < 16; d++) {
         operation(&r, ADD_RI, length, 3, (uint32_t[]){d, d, addend(d)});
     }
@@ -179,7 +185,7 @@ static void stored(scene *s, uint32_t index) {
 }
 
 /* The run's end, behind the other block. */
-static void visited(scene *s, uint8_t length) {
+static void visited(scene *s) {
     run *r = &s->run;
     uint32_t count = r->end.brk != 0 ? FIRST_CHECK : MORE;
     for (uint32_t d = 0; d < 16; d++) {
@@ -196,10 +202,10 @@ static void visited(scene *s, uint8_t length) {
         r->left = BY_CHAIN;
     }
     r->end.done += count;
-    r->end.pc += count * length;
+    r->end.pc += count * length_at(r->end.pc);
 }
 
-/* The other block stands at the site's target, in RAM with operations of no length, so that they do not reach past its end. */
+/* The other block stands at the site's target. */
 static reason linked(scene *s, uint32_t limit) {
     run *r = &s->run;
     if (r->left != BY_CHAIN) {
@@ -213,7 +219,7 @@ static reason linked(scene *s, uint32_t limit) {
     }
     s->linking = TO_OTHER;
     s->linked = r->site;
-    s->other = visitor(&s->block, r->end.pc, in_flash(r->end.pc) ? 2 : 0);
+    s->other = visitor(&s->block, r->end.pc);
     r->start.limit = r->end.done + limit;
     return PLAYED;
 }
@@ -227,7 +233,7 @@ reason onward(scene *s) {
     if (guarded(&s->other) && r->end.versions[0] != r->end.versions[1]) {
         ask_last(r, guard_request(s), 1);
     }
-    visited(s, in_flash(r->end.pc) ? 2 : 0);
+    visited(s);
     return PLAYED;
 }
 
