@@ -24,7 +24,7 @@ uint64_t junk(void);
 region lay(size_t bytes, placing how, uint64_t written);
 void release(region *r);
 
-/* Whether memory can be had at such an address: the runs' are above 2^39, where some kernels have none. */
+/* Whether memory can be had at such an address: the runs' reach above 2^39, where some kernels have none. */
 int reachable(uint64_t address);
 
 /* What the region holds, from an offset on. */
