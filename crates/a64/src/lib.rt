@@ -1,4 +1,6 @@
 // The encoders of jit_a64.rs: what each instruction's word is, or why it is refused.
+#![tactic(auto)]
+
 ghost use Rattle.std.specs.Prelude.{◌≡◌};
 ghost use Rattle.a64.specs.Conditions.{code, inverse};
 
@@ -123,7 +125,7 @@ pub use select::csneg;
 pub use words::Encoded;
 
 // The condition codes, by the numbers of the cond field.
-#[derive(Drop)]
+#[derive(Clone, Copy)]
 pub enum Cond {
     Eq,
     Ne,

@@ -1,4 +1,6 @@
 // Operations that stay in the registers (kinds 0 to 20), each as the steps of the definition's line for it.
+#![tactic(auto)]
+
 ghost use Rattle.std.specs.Prelude.{ℕ};
 ghost use Rattle.lowering.specs.Given.{given};
 ghost use Rattle.lowering.specs.Steps.{lowered, un, div, remainder as remainderOf};

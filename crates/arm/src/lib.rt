@@ -1,27 +1,28 @@
 // The A64 instructions of the encoders, grouped by the encoding classes of the Arm manual (C4.1). Operands stand in the order of
 // the manual's diagram, from left to right. Registers are 0 to 31, conditions 0 to 15, and signed fields are held as their bits.
+#![tactic(auto)]
 
 // sf: the register width, 32 bits or 64
-#[derive(Drop)]
+#[derive(Clone, Copy)]
 pub enum Size {
     W,
     X,
 }
 
-#[derive(Drop)]
+#[derive(Clone, Copy)]
 pub enum AddSub {
     Add,
     Sub,
 }
 
 // S: whether the condition flags are set
-#[derive(Drop)]
+#[derive(Clone, Copy)]
 pub enum Flags {
     Keeps,
     Sets,
 }
 
-#[derive(Drop)]
+#[derive(Clone, Copy)]
 pub enum Shift {
     Lsl,
     Lsr,
@@ -29,14 +30,14 @@ pub enum Shift {
     Ror,
 }
 
-#[derive(Drop)]
+#[derive(Clone, Copy)]
 pub enum Move {
     Movn,
     Movz,
     Movk,
 }
 
-#[derive(Drop)]
+#[derive(Clone, Copy)]
 pub enum Logic {
     And,
     Orr,
@@ -45,27 +46,27 @@ pub enum Logic {
 }
 
 // N: whether the second operand is inverted
-#[derive(Drop)]
+#[derive(Clone, Copy)]
 pub enum Second {
     Plain,
     Inverted,
 }
 
-#[derive(Drop)]
+#[derive(Clone, Copy)]
 pub enum Extract {
     Sbfm,
     Bfm,
     Ubfm,
 }
 
-#[derive(Drop)]
+#[derive(Clone, Copy)]
 pub enum One {
     Rev16,
     Rev,
     Clz,
 }
 
-#[derive(Drop)]
+#[derive(Clone, Copy)]
 pub enum Two {
     Udiv,
     Sdiv,
@@ -74,7 +75,7 @@ pub enum Two {
     Asrv,
 }
 
-#[derive(Drop)]
+#[derive(Clone, Copy)]
 pub enum Three {
     Madd,
     Msub,
@@ -82,7 +83,7 @@ pub enum Three {
     Umaddl,
 }
 
-#[derive(Drop)]
+#[derive(Clone, Copy)]
 pub enum Select {
     Csel,
     Csinc,
@@ -90,7 +91,7 @@ pub enum Select {
     Csneg,
 }
 
-#[derive(Drop)]
+#[derive(Clone, Copy)]
 pub enum Access {
     Strb,
     Ldrb,
@@ -105,39 +106,39 @@ pub enum Access {
 }
 
 // a register offset's shift: none, or the access's own size
-#[derive(Drop)]
+#[derive(Clone, Copy)]
 pub enum Scale {
     Unscaled,
     Scaled,
 }
 
-#[derive(Drop)]
+#[derive(Clone, Copy)]
 pub enum Mode {
     Post,
     Offset,
     Pre,
 }
 
-#[derive(Drop)]
+#[derive(Clone, Copy)]
 pub enum Pair {
     Stp,
     Ldp,
 }
 
-#[derive(Drop)]
+#[derive(Clone, Copy)]
 pub enum Test {
     Zero,
     Nonzero,
 }
 
-#[derive(Drop)]
+#[derive(Clone, Copy)]
 pub enum Jump {
     Br,
     Blr,
     Ret,
 }
 
-#[derive(Drop)]
+#[derive(Clone, Copy)]
 pub enum Float {
     Fmul,
     Fdiv,
@@ -147,7 +148,7 @@ pub enum Float {
     Fminnm,
 }
 
-#[derive(Drop)]
+#[derive(Clone, Copy)]
 pub enum Convert {
     Scvtf,
     Ucvtf,
@@ -157,7 +158,7 @@ pub enum Convert {
     Fcvtzu,
 }
 
-#[derive(Drop)]
+#[derive(Clone, Copy)]
 pub enum Instr {
     // Move wide (immediate): hw, imm16, Rd
     MoveWide(Size, Move, u32, u32, u32),

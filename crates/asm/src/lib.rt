@@ -1,5 +1,7 @@
 // The assembler: words into a lent slice, labels, fix-ups and literals into a lent table, and four counts by value.
 // What does not fit is counted and not stored; `finish` tells of it.
+#![tactic(auto)]
+
 ghost use Rattle.std.specs.Prelude.{◌≡◌, ◌+◌, ◌*◌, ◌%◌, ◌<◌, ◌≤◌, set};
 ghost use Rattle.arm.specs.declared.Size.TheVariants.{W};
 ghost use Rattle.arm.specs.declared.Test.TheVariants.{Zero, Nonzero};
@@ -26,18 +28,18 @@ pub const FIXUPS_AT: usize = 2056;
 pub const TABLE: usize = 6152;
 
 // A label's number is never a word's position.
-#[derive(Drop)]
+#[derive(Clone, Copy)]
 pub struct Label(pub u32);
 
 // Where the distance of a word leads: to a label, in this field, or to an entry of the literal pool.
-#[derive(Drop)]
+#[derive(Clone, Copy)]
 pub enum Reference {
     ToLabel(Label, Fix),
     ToPool(u32),
 }
 
 // How many words, labels, fix-ups and literals there are.
-#[derive(Drop)]
+#[derive(Clone, Copy)]
 pub struct Asm {
     pub at: u32,
     pub labels: u32,
@@ -45,7 +47,7 @@ pub struct Asm {
     pub literals: u32,
 }
 
-#[derive(Drop)]
+#[derive(Clone, Copy)]
 pub struct Made {
     pub a: Asm,
     pub l: Label,

@@ -1,11 +1,13 @@
 // A checked block: what a block record holds once it is read. The names are those of the Rust: `Fast` is an operation, `Op` its
 // arithmetic, `BOp` an operation of a block. A selector that document 01 counts in numbers is an enum here, a number above its
 // cases being its last case (docs/DECISIONS.md).
+#![tactic(auto)]
+
 ghost use Rattle.std.specs.Prelude.{◌≡◌};
 ghost use Rattle.block.specs.Block.{jumping, on_bus, in_flash};
 
 // op 0 to 10
-#[derive(Drop)]
+#[derive(Clone, Copy)]
 pub enum Op {
     Add,
     Sub,
@@ -21,7 +23,7 @@ pub enum Op {
 }
 
 // op 0 to 5 of Rmw
-#[derive(Drop)]
+#[derive(Clone, Copy)]
 pub enum RmwOp {
     Or,
     And,
@@ -32,7 +34,7 @@ pub enum RmwOp {
 }
 
 // cond 0 to 9
-#[derive(Drop)]
+#[derive(Clone, Copy)]
 pub enum Cond {
     Eq,
     Ne,
@@ -47,21 +49,21 @@ pub enum Cond {
 }
 
 // b of Ld and St: a register, or 16 for sp
-#[derive(Drop)]
+#[derive(Clone, Copy)]
 pub enum Base {
     Reg(u8),
     Sp,
 }
 
 // i and inc of LdPre and StPre: register i, or with an i of 16 to 255 the increment
-#[derive(Drop)]
+#[derive(Clone, Copy)]
 pub enum Amount {
     Reg(u8),
     Inc(u32),
 }
 
 // w: 1, 2 or 4 bytes
-#[derive(Drop)]
+#[derive(Clone, Copy)]
 pub enum Width {
     Byte,
     Half,
@@ -69,7 +71,7 @@ pub enum Width {
 }
 
 // rk, mk: what rv or mv is: a register's number, a number, or the number of a register that names a bit
-#[derive(Drop)]
+#[derive(Clone, Copy)]
 pub enum Rk {
     Reg,
     Imm,
@@ -77,7 +79,7 @@ pub enum Rk {
 }
 
 // part of Ext: bits 0 to 7, 0 to 15, 16 to 31
-#[derive(Drop)]
+#[derive(Clone, Copy)]
 pub enum Part {
     Byte,
     Half,
@@ -85,7 +87,7 @@ pub enum Part {
 }
 
 // kind of MinMax
-#[derive(Drop)]
+#[derive(Clone, Copy)]
 pub enum Choice {
     MinS,
     MaxS,
@@ -94,7 +96,7 @@ pub enum Choice {
 }
 
 // k of Un: SatS and SatU saturate to 16 bits, signed and unsigned
-#[derive(Drop)]
+#[derive(Clone, Copy)]
 pub enum UnKind {
     Not,
     Neg,
@@ -106,7 +108,7 @@ pub enum UnKind {
 }
 
 // k of Div
-#[derive(Drop)]
+#[derive(Clone, Copy)]
 pub enum DivKind {
     QuoS,
     QuoU,
@@ -115,7 +117,7 @@ pub enum DivKind {
 }
 
 // The kinds, in document 01's order, then document 02's, with their operands in order.
-#[derive(Drop)]
+#[derive(Clone, Copy)]
 pub enum Fast {
     Nop,
     MovI {
@@ -370,7 +372,7 @@ pub enum Fast {
 }
 
 // An operation of a block: its guest length in bytes, and whether it is glued to the next one.
-#[derive(Drop)]
+#[derive(Clone, Copy)]
 pub struct BOp {
     pub fast: Fast,
     pub len: u8,
@@ -378,7 +380,7 @@ pub struct BOp {
 }
 
 // Byte offsets in the processor record: field 01.
-#[derive(Drop)]
+#[derive(Clone, Copy)]
 pub struct Layout {
     pub regs: u32,
     pub sp: u32,
@@ -388,7 +390,7 @@ pub struct Layout {
 }
 
 // The guest's memory, and whether stores ask the code map: field 02.
-#[derive(Drop)]
+#[derive(Clone, Copy)]
 pub struct Memory {
     pub ram_base: u32,
     pub ram_len: u32,
@@ -398,7 +400,7 @@ pub struct Memory {
 }
 
 // Host addresses: field 03.
-#[derive(Drop)]
+#[derive(Clone, Copy)]
 pub struct Addresses {
     pub h_read: u64,
     pub h_write: u64,
@@ -406,14 +408,14 @@ pub struct Addresses {
 }
 
 // A RAM block's guard, field 06: its `RamGuard`, and the helper that is asked where the versions differ. A flash block has zeros.
-#[derive(Drop)]
+#[derive(Clone, Copy)]
 pub struct Guard {
     pub at: u64,
     pub h_ram_ok: u64,
 }
 
 // Field 04 is pc0. The first n of ops are the block's operations, the others are Nop.
-#[derive(Drop)]
+#[derive(Clone, Copy)]
 pub struct Block {
     pub layout: Layout,
     pub memory: Memory,

@@ -117,7 +117,7 @@ fn other_word(case: &[u8], from: usize, count: usize, rest: u32, words: &[u32]) 
     i
 }
 
-#[derive(Drop)]
+#[derive(Clone, Copy)]
 pub enum Found {
     At(usize),
     Nothing,

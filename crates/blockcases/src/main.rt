@@ -1,6 +1,8 @@
 // Translates the records of the input, and compares each answer with a frozen one: the fault, the counts, the sites, every lent word, and
 // the number of words that the block takes. Writes how much was compared, and the first difference where there is one.
 // tools/block_cases.py makes the input, and says its form.
+#![tactic(auto)]
+
 mod case;
 
 use case::Found;
@@ -13,7 +15,7 @@ const LENT: usize = 28672;
 const ROOM: usize = 118840;
 
 // What has been compared, and the first case that differs, with the place of the difference in it.
-#[derive(Drop)]
+#[derive(Clone, Copy)]
 struct Tally {
     cases: u64,
     refused: u64,

@@ -1,4 +1,6 @@
 // `emit_ops`: the operations of a block one behind another, a break check behind those that use the bus.
+#![tactic(auto)]
+
 ghost use Rattle.std.specs.Prelude.{◌<◌};
 ghost use Rattle.block.specs.Block.{ops_of};
 ghost use Rattle.lowering.specs.Given.{given};

@@ -1,4 +1,6 @@
 // Reads a block record from standard input, and writes its listing, or why it is refused: document 01, "A whole listing".
+#![tactic(auto)]
+
 ghost use Rattle.text.specs.Put.{Placed};
 ghost use Rattle.answers.specs.Translation.{translation};
 ghost use Rattle.answers.specs.Contract.{Sited};

@@ -1,4 +1,6 @@
 // Operations that jump (kinds 30 to 39), each as the steps of the definition's line for it; count is the operations done with it.
+#![tactic(auto)]
+
 ghost use Rattle.std.specs.Prelude.{◌≡◌, ℕ, ◌+◌};
 ghost use Rattle.lowering.specs.Given.{given};
 ghost use Rattle.lowering.specs.Steps.{lowered};

@@ -1,5 +1,7 @@
 // Operations that use the bus (kinds 21 to 29), each as the steps of the definition's line for it, and what PushRet has in common with
 // PushRets; i is the operation's position.
+#![tactic(auto)]
+
 ghost use Rattle.std.specs.Prelude.{ℕ};
 ghost use Rattle.lowering.specs.Given.{given};
 ghost use Rattle.lowering.specs.Steps.{Step as Meant, lowered, changed as changedBy, rmw_value, push, rets};

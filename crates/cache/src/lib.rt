@@ -1,4 +1,6 @@
 // The register cache of a block (RegCache in the Rust), by value: eight host registers that hold guest registers.
+#![tactic(auto)]
+
 ghost use Rattle.std.specs.Prelude.{◌≡◌, ◌/◌, ◌<◌};
 ghost use Rattle.arm.specs.declared.Instr.TheVariants.{MemoryImm};
 ghost use Rattle.lowering.specs.Cache.{host as hostOf, off_reg, oldest as oldestOf};
@@ -12,20 +14,20 @@ use block::Layout;
 use lowering::RegCache;
 
 // The lookup's answer: a slot, or nothing.
-#[derive(Drop)]
+#[derive(Clone, Copy)]
 pub enum Found {
     At(usize),
     Nothing,
 }
 
 // What giving up a slot costs: a host register is stored, at an offset in words.
-#[derive(Drop)]
+#[derive(Clone, Copy)]
 pub enum Spill {
     Store(u32, u32),
     Nothing,
 }
 
-#[derive(Drop)]
+#[derive(Clone, Copy)]
 pub struct Taken {
     pub i: usize,
     pub spill: Spill,

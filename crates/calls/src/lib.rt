@@ -1,5 +1,7 @@
 // The encoder that a name and its numbers call, by how many numbers there are. A list of names stands at the `match` that counts them; a
 // name that is none of them is looked for in the function that the last arm calls.
+#![tactic(auto)]
+
 use a64::{Cond, Encoded};
 use constants::Sequence;
 
@@ -16,7 +18,7 @@ const AL: u64 = 14;
 pub const NO_NUMBERS: usize = 5;
 
 // The numbers of a call, 64 bits each, and how many there are.
-#[derive(Drop)]
+#[derive(Clone, Copy)]
 pub struct Numbers {
     pub count: usize,
     pub values: [u64; 4],

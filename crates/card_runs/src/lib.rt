@@ -1,1 +1,2 @@
 // Runs of whole blocks, start to end, computed by the card's definition. Theorems only, in proofs/.
+#![tactic(auto)]

@@ -1,4 +1,6 @@
 // The link of a chain site with a body.
+#![tactic(auto)]
+
 ghost use Rattle.std.specs.Prelude.{◌≡◌};
 ghost use Rattle.words.specs.Answers.{told};
 ghost use Rattle.chain.specs.Link.{linked};

@@ -1,4 +1,6 @@
 // What a step chooses: the word of an instruction, a number or a condition.
+#![tactic(auto)]
+
 ghost use Rattle.std.specs.Prelude.{◌≡◌, ◌%◌, ◌<◌};
 ghost use Rattle.block.specs.Block.{kind_of, may_jump, uses_bus};
 ghost use Rattle.code.specs.Items.{pick};
@@ -41,7 +43,7 @@ const GT: u32 = 12;
 const LE: u32 = 13;
 
 // An instruction with no operand to choose: its name and its registers.
-#[derive(Drop)]
+#[derive(Clone, Copy)]
 pub enum Fixed {
     Movz11,
     Lslv112,

@@ -1,4 +1,6 @@
 // What `compile` does: the opening words, the limit test, the guard, the operations, the common exit, and the end of the assembly.
+#![tactic(auto)]
+
 ghost use Rattle.std.specs.Prelude.{◌≡◌, map, [], ◌∷◌, ◌≤◌, length};
 ghost use Rattle.block.specs.Block.{in_flash};
 ghost use Rattle.block.specs.Checked.{Checked};
@@ -20,7 +22,7 @@ use finish::Finished;
 use lower::{Lowered, Sites};
 use lowering::RegCache;
 
-#[derive(Drop)]
+#[derive(Clone, Copy)]
 pub struct Compiled {
     pub finished: Finished,
     pub sites: Sites,

@@ -1,4 +1,6 @@
 // The encoders of jit_a64.rs and `Gen::add_imm` that write several words: constants, and sums with them.
+#![tactic(auto)]
+
 ghost use Rattle.std.specs.Prelude.{◌≡◌, ◌/◌, ◌%◌, ◌^◌, ◌<◌, [], ◌∷◌, nat_lt};
 ghost use Rattle.arm.specs.declared.Instr.TheVariants.{Nop, LoadLiteral};
 ghost use Rattle.arm.specs.Instr.{encode};
@@ -10,7 +12,7 @@ use arm::{AddSub, Flags, Instr, Logic, Move, Second, Shift, Size};
 use words::word;
 
 // What an encoder of several words answers.
-#[derive(Drop)]
+#[derive(Clone, Copy)]
 pub enum Sequence {
     Empty,
     One(u32),

@@ -1,4 +1,6 @@
 // `emit_op`: an operation's kind chooses the function that lowers it.
+#![tactic(auto)]
+
 ghost use Rattle.std.specs.Prelude.{◌<◌};
 ghost use Rattle.lowering.specs.Given.{given};
 ghost use Rattle.lowering.specs.Steps.{lowered};

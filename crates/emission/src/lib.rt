@@ -1,4 +1,6 @@
 // Emitting: instructions through their words, guest registers through the cache, and the cache's flush and reload.
+#![tactic(auto)]
+
 ghost use Rattle.std.specs.Prelude.{◌≡◌, true, List, [], ◌∷◌, ℕ, ◌+◌, ◌<◌, ◌≤◌};
 ghost use Rattle.arm.specs.declared.Instr.{Instr};
 ghost use Rattle.lowering.specs.Instrs.{mov as movOf, mov_x, add_i, cmp as cmpOf};
@@ -15,7 +17,7 @@ use cache::{Found, Spill};
 use lowering::RegCache;
 
 // The code and the cache behind a guest register's move.
-#[derive(Drop)]
+#[derive(Clone, Copy)]
 pub struct Held {
     pub a: Asm,
     pub rc: RegCache,

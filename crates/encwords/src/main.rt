@@ -1,12 +1,14 @@
 // Answers calls of the encoders: a call a line on standard input, its words a line on standard output. A refused call is answered
 // `refused N 0`, and a line that is no call `unknown`.
+#![tactic(auto)]
+
 mod answer;
 
 use input::Piece;
 use text::Held;
 
 // What a read of the input left: the line whose end is still to come, or the last one.
-#[derive(Drop)]
+#[derive(Clone, Copy)]
 enum Turn {
     More(Held),
     Ended(Held),

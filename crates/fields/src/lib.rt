@@ -1,4 +1,6 @@
 // Fields 01 to 04 and 06 of a block record: their faults, and what they hold.
+#![tactic(auto)]
+
 ghost use Rattle.std.specs.Prelude.{◌≡◌, false, ◌+◌, ◌≤◌, ◌<◌, length};
 ghost use Rattle.block.specs.Block.{in_flash};
 ghost use Rattle.fields.specs.Fields.{cut as isCut, field_fault, layout_of, spans, span, any, far as isFar, unaligned, meets};

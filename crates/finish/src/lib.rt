@@ -1,4 +1,6 @@
 // The end of an assembly: the literal pool behind the words, then each distance in its field.
+#![tactic(auto)]
+
 ghost use Rattle.std.specs.Prelude.{◌≡◌, ◌+◌, ◌*◌, ◌/◌, ◌%◌, ◌^◌, ◌<◌, ◌≤◌, length, slice_index, slice_set};
 ghost use Rattle.std.specs.Int.Signed.{mag};
 ghost use Rattle.code.specs.Items.{dist, halves, pad_of, base_of};
@@ -11,7 +13,7 @@ use asm::{Asm, Label, Reference};
 use code::Fix;
 
 // The words of a block, or how many are needed where fewer are lent.
-#[derive(Drop)]
+#[derive(Clone, Copy)]
 pub enum Finished {
     Words(u32),
     Short(u32),

@@ -1,4 +1,6 @@
 // The encoders of jit_a64.rs that use the float registers: single-precision numbers.
+#![tactic(auto)]
+
 ghost use Rattle.std.specs.Prelude.{◌≡◌};
 ghost use Rattle.arm.specs.declared.Convert.TheVariants.{Scvtf, Ucvtf, FmovWS, FmovSW, Fcvtzs, Fcvtzu};
 ghost use Rattle.arm.specs.declared.Instr.TheVariants.{FloatCompare, FloatConvert};

@@ -1,5 +1,7 @@
 // Operations of 2026-09 (kinds 45 to 49), addressing forms and a table branch, each as the steps of the definition's line for it; i is the
 // operation's position.
+#![tactic(auto)]
+
 ghost use Rattle.std.specs.Prelude.{◌≡◌, [], ◌∷◌, ℕ, ◌+◌};
 ghost use Rattle.code.specs.Items.{pick};
 ghost use Rattle.lowering.specs.Given.{given};

@@ -1,5 +1,7 @@
 // Operations that move groups of registers (kinds 40 to 44), each as the steps of the definition's line for it; i is the operation's
 // position.
+#![tactic(auto)]
+
 ghost use Rattle.std.specs.Prelude.{◌≡◌, true, false, reverse, ℕ, zero, ◌+◌, ◌<◌};
 ghost use Rattle.block.specs.Block.{members, saved};
 ghost use Rattle.lowering.specs.Given.{given};

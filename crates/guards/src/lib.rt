@@ -1,4 +1,6 @@
 // The guard of a RAM block, as `compile` emits it behind the limit test: two versions compared, and the helper asked where they differ.
+#![tactic(auto)]
+
 ghost use Rattle.std.specs.Prelude.{◌≡◌, [], ◌∷◌};
 ghost use Rattle.code.specs.Tree.{nowhere};
 ghost use Rattle.lowering.specs.Instrs.{ldr_x, cmp_x};

@@ -1,10 +1,12 @@
 // Reading standard input piece by piece.
+#![tactic(auto)]
+
 use libc::STDIN_FILENO;
 use text::Held;
 
 // What one read gave: bytes at the start of the piece, none where a signal interrupted it; the input's end; or a failure, which has been
 // told on standard error.
-#[derive(Drop)]
+#[derive(Clone, Copy)]
 pub enum Piece {
     Bytes(usize),
     Ended,
@@ -27,7 +29,7 @@ pub fn read_piece(piece: &mut [u8]) -> Piece {
 }
 
 // The whole input: so many bytes at the start of a lent buffer, more than it has room for, or a failure.
-#[derive(Drop)]
+#[derive(Clone, Copy)]
 pub enum Whole {
     Bytes(usize),
     Long,
@@ -35,7 +37,7 @@ pub enum Whole {
 }
 
 // What a read of the input left: more to read, or all of it.
-#[derive(Drop)]
+#[derive(Clone, Copy)]
 enum Turn {
     More(usize),
     Ended(Whole),

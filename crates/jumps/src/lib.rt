@@ -1,4 +1,6 @@
 // The methods of `Gen` that emit jumps, and the words that open and close a block.
+#![tactic(auto)]
+
 ghost use Rattle.std.specs.Prelude.{◌≡◌, List, [], ◌∷◌, ℕ, ◌<◌};
 ghost use Rattle.arm.specs.declared.Instr.{Instr};
 ghost use Rattle.code.specs.Tree.{Depth, Var, inside, nowhere};
@@ -53,14 +55,14 @@ const NE: u32 = 1;
 const LS: u32 = 9;
 
 // The assembler behind a chain, and the position of its site's branch.
-#[derive(Drop)]
+#[derive(Clone, Copy)]
 pub struct Chained {
     pub a: Asm,
     pub at: u32,
 }
 
 // The same of two sites, that of the address behind first.
-#[derive(Drop)]
+#[derive(Clone, Copy)]
 pub struct Forked {
     pub a: Asm,
     pub at: u32,

@@ -1,5 +1,7 @@
 // The text that answers a record, put into a lent buffer: a listing of its words and chain sites, `refused` with number and place, or
 // `long`. Each function answers how many bytes it put.
+#![tactic(auto)]
+
 ghost use Rattle.std.specs.Prelude.{◌++◌, length};
 ghost use Rattle.text.specs.Put.{decimal, Placed};
 ghost use Rattle.listing.specs.Listing.{counts, site_line, site_if, site_lines, accepted as Listing·accepted, refused as Listing·refused, long as Listing·long};

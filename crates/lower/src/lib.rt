@@ -1,4 +1,6 @@
 // Each step that `emit_op` takes, to words: the words behind, the register cache and the chain sites.
+#![tactic(auto)]
+
 ghost use Rattle.std.specs.Prelude.{◌≡◌, [], ◌∷◌, ◌%◌, ◌<◌};
 ghost use Rattle.code.specs.Items.{pick};
 ghost use Rattle.arm.specs.declared.Instr.{Instr};
@@ -17,7 +19,7 @@ use emission::Held;
 use lowering::RegCache;
 
 // The chain sites so far: the first n word positions, each with the guest address that it goes on at.
-#[derive(Drop)]
+#[derive(Clone, Copy)]
 pub struct Sites {
     pub n: u32,
     pub at: [u32; 2],
@@ -25,7 +27,7 @@ pub struct Sites {
 }
 
 // What goes by value from step to step.
-#[derive(Drop)]
+#[derive(Clone, Copy)]
 pub struct Lowered {
     pub a: Asm,
     pub rc: RegCache,

@@ -1,1 +1,2 @@
 // The A64 machine is definitions and laws alone: see specs/ and proofs/.
+#![tactic(auto)]

@@ -1,1 +1,2 @@
 // Single steps, start to end, computed by the machine's definition. Theorems only, in proofs/.
+#![tactic(auto)]

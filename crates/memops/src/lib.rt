@@ -1,4 +1,6 @@
 // Loads and stores of guest memory (`load` and `store` of `Gen`): inside a region directly, elsewhere by a helper.
+#![tactic(auto)]
+
 ghost use Rattle.std.specs.Prelude.{◌≡◌, [], ◌∷◌};
 ghost use Rattle.code.specs.Tree.{inner, outer, inside, nowhere};
 ghost use Rattle.lowering.specs.Instrs.{sub as subOf, indexed as indexedOf};

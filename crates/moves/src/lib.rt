@@ -1,4 +1,6 @@
 // Moves and arithmetic of `Gen` that are up to three instructions and no jump.
+#![tactic(auto)]
+
 ghost use Rattle.std.specs.Prelude.{◌≡◌, ℕ, ◌+◌, ◌-◌, ◌<◌, List, [], ◌∷◌, ◌++◌};
 ghost use Rattle.block.specs.Block.{bytes as bytes_of};
 ghost use Rattle.lowering.specs.Instrs.{mov32 as mov32_of};

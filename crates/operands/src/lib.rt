@@ -1,4 +1,6 @@
 // The operands of an operation: little-endian numbers of the record, the operands that choose, and the table of kinds.
+#![tactic(auto)]
+
 mod numbers;
 mod rows;
 mod selectors;

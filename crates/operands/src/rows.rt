@@ -36,7 +36,7 @@ fn is_width(x: u32) -> bool
 }
 
 // How many operands a kind has, and whether each is in its range.
-#[derive(Drop)]
+#[derive(Clone, Copy)]
 pub struct Shape {
     pub count: usize,
     pub fit: bool,

@@ -1,4 +1,6 @@
 // The operand decoder: the payload of a field 05, read to an operation or to the number of its fault.
+#![tactic(auto)]
+
 ghost use Rattle.std.specs.Prelude.{◌≡◌};
 ghost use Rattle.operation.specs.Operation.{operands, contents_fault, operation_of};
 ghost use Rattle.operation.specs.Judged.{judged};
@@ -10,7 +12,7 @@ use block::{BOp, Memory};
 use operands::{byte, fast_of, get32, shape_of};
 
 // An operation, or the number of its fault.
-#[derive(Drop)]
+#[derive(Clone, Copy)]
 pub enum Operation {
     Fault(u32),
     Good(BOp),

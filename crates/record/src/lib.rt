@@ -1,4 +1,6 @@
 // The reader of block records: a checked block, or the number and place of the first fault.
+#![tactic(auto)]
+
 ghost use Rattle.std.specs.Prelude.{◌≡◌, false, ◌+◌, ◌≤◌, ◌<◌, length};
 ghost use Rattle.block.specs.Block.{in_flash};
 ghost use Rattle.block.specs.Checked.{Checked};
@@ -20,14 +22,14 @@ use operands::{byte, get16};
 use operation::Operation;
 
 // What reading finds: a checked block, or a fault by number and place.
-#[derive(Drop)]
+#[derive(Clone, Copy)]
 pub enum Answer {
     Accepted,
     Refused(u32, usize),
 }
 
 // The answer, with the block where it is accepted.
-#[derive(Drop)]
+#[derive(Clone, Copy)]
 pub struct Reading {
     pub answer: Answer,
     pub block: Block,

@@ -1,4 +1,6 @@
 // The numbers of a group of registers: the bytes of a BlockMove and where they start, and which registers PushRets and PopPc move.
+#![tactic(auto)]
+
 ghost use Rattle.std.specs.Prelude.{◌≡◌, ◌-◌, if◌then◌else◌, nat_lt};
 ghost use Rattle.block.specs.Block.{span as span_of};
 ghost use Rattle.lowering.specs.Steps.{move_offset};

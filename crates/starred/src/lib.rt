@@ -1,1 +1,2 @@
 // Document 01's starred lines: see proofs/Starred.antt.
+#![tactic(auto)]

@@ -1,1 +1,2 @@
 // Lists of steps, one behind another: definitions and theorems, no function.
+#![tactic(auto)]

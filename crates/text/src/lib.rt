@@ -1,5 +1,7 @@
 // The plain text that the programs read and write: lines, words and numbers. Every function is total: a position past the end
 // finds nothing, and what there is no room for is not written.
+#![tactic(auto)]
+
 mod number;
 mod put;
 mod split;

@@ -3,7 +3,7 @@ ghost use Rattle.std.specs.Prelude.{◌≡◌, ◌<◌, ◌≤◌, drop};
 ghost use Rattle.text.specs.Number.{digit_of, whole, unsigned, negated, hexadecimal, number_of, signed_of};
 
 // What a word says: the 64 bits of a number, a negative one in two's complement, or no number of 64 bits.
-#[derive(Drop)]
+#[derive(Clone, Copy)]
 pub enum Number {
     Of(u64),
     Nothing,

@@ -58,7 +58,7 @@ pub fn among(n: usize, words: &[u32]) -> usize
 }
 
 // The line that is being read, in a lent buffer: how many bytes it has there, and whether it was too long for it.
-#[derive(Drop)]
+#[derive(Clone, Copy)]
 pub struct Held {
     pub len: usize,
     pub long: bool,

@@ -4,14 +4,14 @@ ghost use Rattle.text.specs.Split.{stop, before, Within};
 ghost use Rattle.text.specs.declared.split.Stop.TheVariants.{LineFeed, Blank, Other};
 
 // A part of a text: the bytes from `from` up to, not including, `to`.
-#[derive(Drop)]
+#[derive(Clone, Copy)]
 pub struct Span {
     pub from: usize,
     pub to: usize,
 }
 
 // What a search stops at: a line feed, a blank, or a byte that is no blank.
-#[derive(Drop)]
+#[derive(Clone, Copy)]
 enum Stop {
     LineFeed,
     Blank,

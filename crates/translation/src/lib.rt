@@ -1,4 +1,6 @@
 // Translation: a block record of any bytes to its block's words, in a lent slice; and how many words it takes, before any are lent.
+#![tactic(auto)]
+
 ghost use Rattle.std.specs.Prelude.{◌≡◌};
 ghost use Rattle.lowering.specs.Compile.{zip_sites};
 ghost use Rattle.lower.specs.Lowers.{ats_of, targets_of};
@@ -15,7 +17,7 @@ use record::Answer;
 const BODY: u32 = 52;
 
 // The chain sites of a block, at most two, by rising word position.
-#[derive(Drop)]
+#[derive(Clone, Copy)]
 pub enum Sites {
     None,
     One(Site),
@@ -23,14 +25,14 @@ pub enum Sites {
 }
 
 // The number of words, the body's offset in bytes and the chain sites; or a fault's number and place.
-#[derive(Drop)]
+#[derive(Clone, Copy)]
 pub enum Translated {
     Accepted(u32, u32, Sites),
     Refused(u32, usize),
 }
 
 // The number of words that a block takes; or a fault's number and place.
-#[derive(Drop)]
+#[derive(Clone, Copy)]
 pub enum Needed {
     Words(u32),
     Refused(u32, usize),

@@ -1,4 +1,6 @@
 // The functions that a host calls, by C's convention, with numbers and slices alone. host/werfund.h declares them.
+#![tactic(auto)]
+
 ghost use Rattle.std.specs.Prelude.{◌≡◌, true, ◌∷◌, set};
 ghost use Rattle.record.specs.Record.{reading_faults, among};
 ghost use Rattle.code.specs.Emit.{lay};

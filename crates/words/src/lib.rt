@@ -1,4 +1,6 @@
 // An instruction's word, or why it is refused.
+#![tactic(auto)]
+
 ghost use Rattle.std.specs.Prelude.{◌≡◌};
 ghost use Rattle.words.specs.Answers.{answer, answer_if, told, word_of};
 
@@ -16,7 +18,7 @@ pub use single::{
 };
 
 // What an encoder answers: the word, or the number of the fault.
-#[derive(Drop)]
+#[derive(Clone, Copy)]
 pub enum Encoded {
     Word(u32),
     Refused(u32),
