@@ -1,0 +1,13 @@
+-- The three ways: the literal stands already, it is a new one, there is no room.
+use native.Mathlib.Omega.{arith}
+use Rattle.asm.proofs.Cases.{keep_there, keep-new, keep-full}
+use Rattle.asm.proofs.keep_literal.Goals as goal
+
+pub returns-then-i-k : goal.returns-then-i-k
+returns-then-i-k c = keep_there _ _ _ _ c.at_most-k.ensures.0 c.if-i-k.true
+
+pub returns-then-k-lt-LITERALS : goal.returns-then-k-lt-LITERALS
+returns-then-k-lt-LITERALS c = keep-new _ _ _ _ c.at_most-k.ensures.0 (omega arith) (omega arith)
+
+pub returns : goal.returns
+returns c = keep-full _ _ _ _ c.at_most-k.ensures.0 (omega arith) (omega arith)
