@@ -1,0 +1,34 @@
+use mathlib.Core.Path.{◌≡◌, sym, ap, ◌∙◌}
+use mathlib.Core.List.{[], ◌∷◌}
+use Rattle.arm.specs.declared.Access.TheVariants.{StrW}
+use Rattle.arm.specs.declared.Instr.TheVariants.{MemoryImm}
+use Rattle.lowering.specs.Instrs.{CPU, str}
+use lib.ListN.{get_or}
+use Rattle.lowering.specs.Cache.{host, FREE, off_reg}
+use Rattle.cache.proofs.Cases.{held_small, free-chosen, free-spill, old_chosen, dirty-spill, clean-spill}
+use Rattle.cache.proofs.take_slot.Goals as goal
+
+pub returns-in-At : goal.returns-in-At
+returns-in-At c =
+    let e = sym c.in-At.is ∙ c.slot-free.ensures in
+    let lay = c.args.lay in
+    let rc = c.args.t2 in
+    record { chose = free-chosen lay rc _ e; small = held_small rc FREE _ e; spills = free-spill lay rc _ e }
+
+pub returns-then-rc-i : goal.returns-then-rc-i
+returns-then-rc-i c =
+    let o = c in
+    let e = sym o.enum_told-1.given.1 ∙ o.slot-free.ensures in
+    let lay = o.args.lay in
+    let rc = o.args.t2 in
+    let old = o.oldest-i.ensures in
+    let store : MemoryImm StrW c.off_reg.result CPU c.host.result ≡ str (host o.oldest-i.result) CPU (off_reg lay (get_or rc.guest o.oldest-i.result 0)) = cc (c.off_reg.ensures, c.host.ensures) in
+    record { chose = old_chosen lay rc _ e old.0; small = old.1; spills = ap (λ i. i ∷ []) store ∙ dirty-spill lay rc _ e old.0 c.if-rc-i.true }
+
+pub returns : goal.returns
+returns c =
+    let e = sym c.enum_told-1.given.1 ∙ c.slot-free.ensures in
+    let lay = c.args.lay in
+    let rc = c.args.t2 in
+    let old = c.oldest-i.ensures in
+    record { chose = old_chosen lay rc _ e old.0; small = old.1; spills = clean-spill lay rc _ e old.0 c.if-rc-i.false }
