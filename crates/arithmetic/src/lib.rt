@@ -3,7 +3,7 @@
 
 ghost use Rattle.std.specs.Prelude.{ℕ};
 ghost use Rattle.lowering.specs.Given.{given};
-ghost use Rattle.lowering.specs.Steps.{lowered, un, div, remainder as remainderOf};
+ghost use Rattle.lowering.specs.Steps.{lowered, un, div, remainder as remainder_of};
 ghost use Rattle.lower.specs.Lowers.{Lowers};
 
 use block::{Addresses, Block, Choice, DivKind, Fast, Layout, Memory, Op, Part, Rk, UnKind};
@@ -43,7 +43,7 @@ fn saturate_u(out: &mut [u32], tab: &mut [u64; 6152], q: Lowered) -> Lowered
 
 // w2 = w0 - w2 * w1, and 0 for a divisor of 0
 fn remainder(out: &mut [u32], tab: &mut [u64; 6152], q: Lowered) -> Lowered
-    ensures { (blk : Block) → Lowers blk (remainderOf) out.old tab.old q out.new tab.new result }
+    ensures { (blk : Block) → Lowers blk (remainder_of) out.old tab.old q out.new tab.new result }
 {
     let q = lower::named(out, tab, q, Fixed::Msub2210);
     let q = lower::named(out, tab, q, Fixed::CmpI10);

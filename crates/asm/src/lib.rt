@@ -5,9 +5,9 @@
 ghost use Rattle.std.specs.Prelude.{◌≡◌, ◌+◌, ◌*◌, ◌%◌, ◌<◌, ◌≤◌, set};
 ghost use Rattle.arm.specs.declared.Size.TheVariants.{W};
 ghost use Rattle.arm.specs.declared.Test.TheVariants.{Zero, Nonzero};
-ghost use Rattle.code.specs.Items.{b as bHole, b_cond, cb, tb, adr as adrHole, ldr, label as to_label, literal, go, bind as bindItem, index};
+ghost use Rattle.code.specs.Items.{b as b_hole, b_cond, cb, tb, adr as adr_hole, ldr, label as to_label, literal, go, bind as bind_item, index};
 ghost use Rattle.code.specs.Calls.{bumped};
-ghost use Rattle.asm.specs.State.{literal_room, state, at_most, labelled, literals_from, word, made, fixed, keep_at, put as putItem};
+ghost use Rattle.asm.specs.State.{literal_room, state, at_most, labelled, literals_from, word, made, fixed, keep_at, put as put_item};
 ghost use Rattle.asm.specs.State.{begin};
 ghost use Rattle.asm.specs.State.{fix_no, fix_of, ref_no, ref_of, packed, fixup};
 
@@ -128,7 +128,7 @@ fn put_label(tab: &mut [u64; TABLE], l: Label, at: u32)
 
 // The label stands here.
 pub fn bind(words: &mut [u32], tab: &mut [u64; TABLE], a: Asm, l: Label)
-    ensures { state words.new tab.new a ≡ putItem (bindItem l.0) (state words.old tab.old a) }
+    ensures { state words.new tab.new a ≡ put_item (bind_item l.0) (state words.old tab.old a) }
 {
     let at = a.at;
     put_label(tab, l, at);
@@ -203,14 +203,14 @@ fn fix(words: &mut [u32], tab: &mut [u64; TABLE], a: Asm, to: Reference, w: u32)
 }
 
 pub fn b(words: &mut [u32], tab: &mut [u64; TABLE], a: Asm, l: Label) -> Asm
-    ensures { state words.new tab.new result ≡ putItem (go bHole (to_label l.0)) (state words.old tab.old a) }
+    ensures { state words.new tab.new result ≡ put_item (go b_hole (to_label l.0)) (state words.old tab.old a) }
 {
     fix(words, tab, a, Reference::ToLabel(l, Fix::B26), 0x1400_0000)
 }
 
 pub fn b_cond(words: &mut [u32], tab: &mut [u64; TABLE], a: Asm, cond: u32, l: Label) -> Asm
     requires { cond < 16 }
-    ensures { state words.new tab.new result ≡ putItem (go (b_cond cond) (to_label l.0)) (state words.old tab.old a) }
+    ensures { state words.new tab.new result ≡ put_item (go (b_cond cond) (to_label l.0)) (state words.old tab.old a) }
 {
     fix(
         words,
@@ -223,7 +223,7 @@ pub fn b_cond(words: &mut [u32], tab: &mut [u64; TABLE], a: Asm, cond: u32, l: L
 
 pub fn cbz(words: &mut [u32], tab: &mut [u64; TABLE], a: Asm, rt: u32, l: Label) -> Asm
     requires { rt < 32 }
-    ensures { state words.new tab.new result ≡ putItem (go (cb W Zero rt) (to_label l.0)) (state words.old tab.old a) }
+    ensures { state words.new tab.new result ≡ put_item (go (cb W Zero rt) (to_label l.0)) (state words.old tab.old a) }
 {
     fix(
         words,
@@ -236,7 +236,7 @@ pub fn cbz(words: &mut [u32], tab: &mut [u64; TABLE], a: Asm, rt: u32, l: Label)
 
 pub fn cbnz(words: &mut [u32], tab: &mut [u64; TABLE], a: Asm, rt: u32, l: Label) -> Asm
     requires { rt < 32 }
-    ensures { state words.new tab.new result ≡ putItem (go (cb W Nonzero rt) (to_label l.0)) (state words.old tab.old a) }
+    ensures { state words.new tab.new result ≡ put_item (go (cb W Nonzero rt) (to_label l.0)) (state words.old tab.old a) }
 {
     fix(
         words,
@@ -249,7 +249,7 @@ pub fn cbnz(words: &mut [u32], tab: &mut [u64; TABLE], a: Asm, rt: u32, l: Label
 
 pub fn tbz(words: &mut [u32], tab: &mut [u64; TABLE], a: Asm, rt: u32, bit: u32, l: Label) -> Asm
     requires { (rt < 32) × (bit < 64) }
-    ensures { state words.new tab.new result ≡ putItem (go (tb Zero bit rt) (to_label l.0)) (state words.old tab.old a) }
+    ensures { state words.new tab.new result ≡ put_item (go (tb Zero bit rt) (to_label l.0)) (state words.old tab.old a) }
 {
     fix(
         words,
@@ -262,7 +262,7 @@ pub fn tbz(words: &mut [u32], tab: &mut [u64; TABLE], a: Asm, rt: u32, bit: u32,
 
 pub fn tbnz(words: &mut [u32], tab: &mut [u64; TABLE], a: Asm, rt: u32, bit: u32, l: Label) -> Asm
     requires { (rt < 32) × (bit < 64) }
-    ensures { state words.new tab.new result ≡ putItem (go (tb Nonzero bit rt) (to_label l.0)) (state words.old tab.old a) }
+    ensures { state words.new tab.new result ≡ put_item (go (tb Nonzero bit rt) (to_label l.0)) (state words.old tab.old a) }
 {
     fix(
         words,
@@ -275,7 +275,7 @@ pub fn tbnz(words: &mut [u32], tab: &mut [u64; TABLE], a: Asm, rt: u32, bit: u32
 
 pub fn adr(words: &mut [u32], tab: &mut [u64; TABLE], a: Asm, rd: u32, l: Label) -> Asm
     requires { rd < 32 }
-    ensures { state words.new tab.new result ≡ putItem (go (adrHole rd) (to_label l.0)) (state words.old tab.old a) }
+    ensures { state words.new tab.new result ≡ put_item (go (adr_hole rd) (to_label l.0)) (state words.old tab.old a) }
 {
     fix(
         words,
@@ -323,7 +323,7 @@ fn keep_literal(words: &mut [u32], tab: &mut [u64; TABLE], a: Asm, i: u32, value
 
 pub fn ldr_lit_x(words: &mut [u32], tab: &mut [u64; TABLE], a: Asm, rt: u32, value: u64) -> Asm
     requires { rt < 32 }
-    ensures { state words.new tab.new result ≡ putItem (go (ldr rt) (literal value)) (state words.old tab.old a) }
+    ensures { state words.new tab.new result ≡ put_item (go (ldr rt) (literal value)) (state words.old tab.old a) }
 {
     let i = find(tab, at_most(LITERALS, a.literals), value);
     let a = keep_literal(words, tab, a, i, value);

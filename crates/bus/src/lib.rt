@@ -4,7 +4,7 @@
 
 ghost use Rattle.std.specs.Prelude.{ℕ};
 ghost use Rattle.lowering.specs.Given.{given};
-ghost use Rattle.lowering.specs.Steps.{Step as Meant, lowered, changed as changedBy, rmw_value, push, rets};
+ghost use Rattle.lowering.specs.Steps.{Step as Meant, lowered, changed as changed_by, rmw_value, push, rets};
 ghost use Rattle.choices.specs.Meaning.{instr_of};
 ghost use Rattle.lower.specs.Lowers.{Lowers};
 
@@ -27,7 +27,7 @@ fn changed(
     v: u32,
     i: u32,
 ) -> Lowered
-    ensures { Lowers (given lay mem addr) (changedBy (instr_of f) w v i) out.old tab.old q out.new tab.new result }
+    ensures { Lowers (given lay mem addr) (changed_by (instr_of f) w v i) out.old tab.old q out.new tab.new result }
 {
     let q = lower::named(out, tab, q, Fixed::Mov0Keep);
     let q = lower::load(out, tab, q, lay, mem, addr, w, false, i);

@@ -3,8 +3,8 @@
 
 ghost use Rattle.std.specs.Prelude.{◌≡◌, ◌/◌, ◌<◌};
 ghost use Rattle.arm.specs.declared.Instr.TheVariants.{MemoryImm};
-ghost use Rattle.lowering.specs.Cache.{host as hostOf, off_reg, oldest as oldestOf};
-ghost use Rattle.lowering.specs.Cache.{latest as latestOf, touch as touched, assign as assigned, mark as marked};
+ghost use Rattle.lowering.specs.Cache.{host as host_of, off_reg, oldest as oldest_of};
+ghost use Rattle.lowering.specs.Cache.{latest as latest_of, touch as touched, assign as assigned, mark as marked};
 ghost use Rattle.lowering.specs.Instrs.{CPU};
 ghost use Rattle.words.specs.Answers.{answer, word_of};
 ghost use Rattle.cache.specs.Lookup.{lookup, Took};
@@ -49,7 +49,7 @@ pub fn str(rt: u32, at: u32) -> u32
 // The pool is w5 to w8 and w14 to w17.
 pub fn host(i: usize) -> u32
     requires { i < 8 }
-    ensures { result ≡ hostOf i }
+    ensures { result ≡ host_of i }
 {
     let n = i as u32;
     if n < 4 {
@@ -75,7 +75,7 @@ pub fn slot(rc: RegCache, r: u8) -> Found
 
 // The least recently used.
 pub fn oldest(rc: RegCache) -> usize
-    ensures { (result ≡ oldestOf rc) × (result < 8) }
+    ensures { (result ≡ oldest_of rc) × (result < 8) }
 {
     let first = rc.order[0];
     (first % 8) as usize
@@ -83,7 +83,7 @@ pub fn oldest(rc: RegCache) -> usize
 
 // Slot i behind the others, which stay in their order.
 fn latest(order: [u8; 8], i: u8) -> [u8; 8]
-    ensures { result ≡ latestOf i order }
+    ensures { result ≡ latest_of i order }
 {
     let mut q = order;
     let mut met = false;

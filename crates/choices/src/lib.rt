@@ -4,8 +4,8 @@
 ghost use Rattle.std.specs.Prelude.{◌≡◌, ◌%◌, ◌<◌};
 ghost use Rattle.block.specs.Block.{kind_of, may_jump, uses_bus};
 ghost use Rattle.code.specs.Items.{pick};
-ghost use Rattle.lowering.specs.Instrs.{add_lsl, csel as cselOf, ubfx, sbfx, lsl_i, lsr_i, asr_i};
-ghost use Rattle.lowering.specs.Steps.{alu as aluOf, acond as acondOf, ext as extOf, choice, ones as onesOf, hole as holeOf};
+ghost use Rattle.lowering.specs.Instrs.{add_lsl, csel as csel_of, ubfx, sbfx, lsl_i, lsr_i, asr_i};
+ghost use Rattle.lowering.specs.Steps.{alu as alu_of, acond as acond_of, ext as ext_of, choice, ones as ones_of, hole as hole_of};
 ghost use Rattle.lowering.specs.Steps.{sign as sign_of};
 ghost use Rattle.words.specs.Answers.{answer, word_of};
 ghost use Rattle.choices.specs.Meaning.{instr_of};
@@ -96,7 +96,7 @@ fn logic(o: Logic, n: Second, rd: u32, rn: u32, rm: u32) -> u32
 }
 
 fn csel(rd: u32, rn: u32, rm: u32, cond: u32) -> u32
-    ensures { result ≡ word_of (answer (cselOf rd rn rm cond)) }
+    ensures { result ≡ word_of (answer (csel_of rd rn rm cond)) }
 {
     words::cond_select(Size::W, Select::Csel, rm, cond, rn, rd)
 }
@@ -157,7 +157,7 @@ pub fn named(f: Fixed) -> u32
 
 // w0 = op(w0, w1)
 pub fn alu(op: Op) -> u32
-    ensures { result ≡ word_of (answer (aluOf op)) }
+    ensures { result ≡ word_of (answer (alu_of op)) }
 {
     match op {
         Op::Add => sum(AddSub::Add, Flags::Keeps, 0, 0, 1),
@@ -176,7 +176,7 @@ pub fn alu(op: Op) -> u32
 
 // A part of w0, with its sign or without.
 pub fn ext(part: Part, signed: bool) -> u32
-    ensures { result ≡ word_of (answer (extOf part signed)) }
+    ensures { result ≡ word_of (answer (ext_of part signed)) }
 {
     match part {
         Part::Byte => field(signed, 0, 7),
@@ -187,7 +187,7 @@ pub fn ext(part: Part, signed: bool) -> u32
 
 // w0 or w1, by the flags
 pub fn select(kind: Choice) -> u32
-    ensures { result ≡ word_of (answer (cselOf 0 0 1 (choice kind))) }
+    ensures { result ≡ word_of (answer (csel_of 0 0 1 (choice kind))) }
 {
     match kind {
         Choice::MinS => csel(0, 0, 1, LT),
@@ -247,7 +247,7 @@ pub fn low(l: u8, signed: bool) -> u32
 // ---- numbers
 // l ones, or for 0 every bit
 pub fn ones(l: u8) -> u32
-    ensures { result ≡ onesOf (l % 32) }
+    ensures { result ≡ ones_of (l % 32) }
 {
     let n = (l as u32) % 32;
     if n == 0 {
@@ -258,7 +258,7 @@ pub fn ones(l: u8) -> u32
 
 // Every bit but l, from p on.
 pub fn hole(p: u8, l: u8) -> u32
-    ensures { result ≡ holeOf (p % 32) (l % 32) }
+    ensures { result ≡ hole_of (p % 32) (l % 32) }
 {
     0xffff_ffff - (ones(l) << ((p as u32) % 32))
 }
@@ -272,7 +272,7 @@ pub fn sign(v: u32) -> u32
 
 // ---- conditions
 pub fn acond(c: Cond) -> u32
-    ensures { (result ≡ acondOf c) × (result < 16) }
+    ensures { (result ≡ acond_of c) × (result < 16) }
 {
     match c {
         Cond::Eq => EQ,

@@ -4,7 +4,7 @@
 ghost use Rattle.std.specs.Prelude.{◌≡◌, map, [], ◌∷◌, ◌≤◌, length};
 ghost use Rattle.block.specs.Block.{in_flash};
 ghost use Rattle.block.specs.Checked.{Checked};
-ghost use Rattle.code.specs.Items.{pick, ins as insItem, new as newItem, bind as bindItem};
+ghost use Rattle.code.specs.Items.{pick, ins as ins_item, new as new_item, bind as bind_item};
 ghost use Rattle.code.specs.Tree.{nowhere};
 ghost use Rattle.code.specs.Walk.{walked_words, OneWalk};
 ghost use Rattle.lowering.specs.Cache.{empty_cache};

@@ -3,8 +3,8 @@
 
 ghost use Rattle.std.specs.Prelude.{◌≡◌, true, List, [], ◌∷◌, ℕ, ◌+◌, ◌<◌, ◌≤◌};
 ghost use Rattle.arm.specs.declared.Instr.{Instr};
-ghost use Rattle.lowering.specs.Instrs.{mov as movOf, mov_x, add_i, cmp as cmpOf};
-ghost use Rattle.lowering.specs.Cache.{flush as flushOf, reload as reloadOf, seated, stored, ld_reg, st_reg};
+ghost use Rattle.lowering.specs.Instrs.{mov as mov_of, mov_x, add_i, cmp as cmp_of};
+ghost use Rattle.lowering.specs.Cache.{flush as flush_of, reload as reload_of, seated, stored, ld_reg, st_reg};
 ghost use Rattle.words.specs.Answers.{answer, word_of};
 ghost use Rattle.cache.specs.Lookup.{spilled};
 ghost use Rattle.asm.specs.State.{state};
@@ -31,7 +31,7 @@ pub fn ins(out: &mut [u32], tab: &mut [u64; 6152], a: Asm, w: u32) -> Asm
 }
 
 pub fn mov(out: &mut [u32], tab: &mut [u64; 6152], a: Asm, rd: u32, rm: u32) -> Asm
-    ensures { state out.new tab.new result ≡ emitted (movOf rd rm ∷ []) (state out.old tab.old a) }
+    ensures { state out.new tab.new result ≡ emitted (mov_of rd rm ∷ []) (state out.old tab.old a) }
 {
     ins(
         out,
@@ -82,7 +82,7 @@ pub fn add_imm(out: &mut [u32], tab: &mut [u64; 6152], a: Asm, rd: u32, rn: u32,
 }
 
 pub fn cmp(out: &mut [u32], tab: &mut [u64; 6152], a: Asm, rn: u32, rm: u32) -> Asm
-    ensures { state out.new tab.new result ≡ emitted (cmpOf rn rm ∷ []) (state out.old tab.old a) }
+    ensures { state out.new tab.new result ≡ emitted (cmp_of rn rm ∷ []) (state out.old tab.old a) }
 {
     ins(
         out,
@@ -104,7 +104,7 @@ fn flush_slot(out: &mut [u32], tab: &mut [u64; 6152], a: Asm, lay: Layout, h: u3
 
 // The changed registers are stored, in pool order. The marks stay.
 pub fn flush(out: &mut [u32], tab: &mut [u64; 6152], a: Asm, lay: Layout, rc: RegCache) -> Asm
-    ensures { state out.new tab.new result ≡ emitted (flushOf lay rc) (state out.old tab.old a) }
+    ensures { state out.new tab.new result ≡ emitted (flush_of lay rc) (state out.old tab.old a) }
 {
     let guest = rc.guest;
     let dirty = rc.dirty;
@@ -131,7 +131,7 @@ fn reload_slot(out: &mut [u32], tab: &mut [u64; 6152], a: Asm, lay: Layout, h: u
 
 // The held registers are loaded again, in pool order.
 pub fn reload(out: &mut [u32], tab: &mut [u64; 6152], a: Asm, lay: Layout, rc: RegCache) -> Asm
-    ensures { state out.new tab.new result ≡ emitted (reloadOf lay rc) (state out.old tab.old a) }
+    ensures { state out.new tab.new result ≡ emitted (reload_of lay rc) (state out.old tab.old a) }
 {
     let guest = rc.guest;
     let mut q = a;

@@ -5,7 +5,7 @@
 ghost use Rattle.std.specs.Prelude.{◌≡◌, [], ◌∷◌, ℕ, ◌+◌};
 ghost use Rattle.code.specs.Items.{pick};
 ghost use Rattle.lowering.specs.Given.{given};
-ghost use Rattle.lowering.specs.Steps.{lowered, advance as advanceBy, combined as combinedBy};
+ghost use Rattle.lowering.specs.Steps.{lowered, advance as advance_by, combined as combined_by};
 ghost use Rattle.lower.specs.Lowers.{Lowers};
 
 use block::{Addresses, Amount, Fast, Layout, Memory, Op, Rk, Width};
@@ -16,7 +16,7 @@ const KEEP: u32 = 23;
 
 // w0 = w0 and an amount
 fn advance(out: &mut [u32], tab: &mut [u64; 6152], q: Lowered, lay: Layout, by: Amount) -> Lowered
-    ensures { (mem : Memory) (addr : Addresses) → Lowers (given lay mem addr) (advanceBy by) out.old tab.old q out.new tab.new result }
+    ensures { (mem : Memory) (addr : Addresses) → Lowers (given lay mem addr) (advance_by by) out.old tab.old q out.new tab.new result }
 {
     match by {
         Amount::Reg(x) => {
@@ -111,7 +111,7 @@ fn combined(
     op: Op,
     i: u32,
 ) -> Lowered
-    ensures { Lowers (given lay mem addr) (combinedBy op i) out.old tab.old q out.new tab.new result }
+    ensures { Lowers (given lay mem addr) (combined_by op i) out.old tab.old q out.new tab.new result }
 {
     let q = lower::named(out, tab, q, Fixed::Mov0Keep);
     let q = lower::load(out, tab, q, lay, mem, addr, Width::Word, false, i);

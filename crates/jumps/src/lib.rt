@@ -5,15 +5,15 @@ ghost use Rattle.std.specs.Prelude.{◌≡◌, List, [], ◌∷◌, ℕ, ◌<◌
 ghost use Rattle.arm.specs.declared.Instr.{Instr};
 ghost use Rattle.code.specs.Tree.{Depth, Var, inside, nowhere};
 ghost use Rattle.lowering.specs.declared.RegCache.{RegCache};
-ghost use Rattle.lowering.specs.Instrs.{str as strOf, ldr as ldrOf, frame as frame_of};
-ghost use Rattle.lowering.specs.Fragments.{brk_first, hold as holdOf, exit_imm, chain as chainOf, ind as indOf, check_brk, fork as forkOf};
-ghost use Rattle.lowering.specs.Fragments.{limit as limit_of, opening as openingOf, closing as closingOf};
+ghost use Rattle.lowering.specs.Instrs.{str as str_of, ldr as ldr_of, frame as frame_of};
+ghost use Rattle.lowering.specs.Fragments.{brk_first, hold as hold_of, exit_imm, chain as chain_of, ind as ind_of, check_brk, fork as fork_of};
+ghost use Rattle.lowering.specs.Fragments.{limit as limit_of, opening as opening_of, closing as closing_of};
 ghost use Rattle.lowering.specs.Given.{placed};
 ghost use Rattle.words.specs.Answers.{answer, word_of};
 ghost use Rattle.asm.specs.State.{state};
 ghost use Rattle.emission.specs.Total.{emitted, after_t, starts_t};
-ghost use Rattle.jumps.specs.Parts.{tabled, leave as leaveOf, back as backOf, lookup as lookupOf, saves as savesOf};
-ghost use Rattle.jumps.specs.Parts.{arguments as argumentsOf};
+ghost use Rattle.jumps.specs.Parts.{tabled, leave as leave_of, back as back_of, lookup as lookup_of, saves as saves_of};
+ghost use Rattle.jumps.specs.Parts.{arguments as arguments_of};
 
 use arm::{Access, AddSub, Extract, Flags, Jump, Mode, Move, Pair, Shift, Size};
 use asm::{Asm, Label};
@@ -70,7 +70,7 @@ pub struct Forked {
 }
 
 fn ldr(out: &mut [u32], tab: &mut [u64; 6152], a: Asm, rt: u32, rn: u32, off: u32) -> Asm
-    ensures { state out.new tab.new result ≡ emitted (ldrOf rt rn off ∷ []) (state out.old tab.old a) }
+    ensures { state out.new tab.new result ≡ emitted (ldr_of rt rn off ∷ []) (state out.old tab.old a) }
 {
     emission::ins(
         out,
@@ -81,7 +81,7 @@ fn ldr(out: &mut [u32], tab: &mut [u64; 6152], a: Asm, rt: u32, rn: u32, off: u3
 }
 
 fn str(out: &mut [u32], tab: &mut [u64; 6152], a: Asm, rt: u32, rn: u32, off: u32) -> Asm
-    ensures { state out.new tab.new result ≡ emitted (strOf rt rn off ∷ []) (state out.old tab.old a) }
+    ensures { state out.new tab.new result ≡ emitted (str_of rt rn off ∷ []) (state out.old tab.old a) }
 {
     emission::ins(
         out,
@@ -114,7 +114,7 @@ fn pair(
 
 // A store, by its word, and out with the count of operations done.
 fn leave(out: &mut [u32], tab: &mut [u64; 6152], a: Asm, store: u32) -> Asm
-    ensures { (n : Depth) (e : Var n → ℕ) (i : Instr) → store ≡ word_of (answer i) → state out.new tab.new result ≡ after_t (leaveOf i) e 0 (state out.old tab.old a) }
+    ensures { (n : Depth) (e : Var n → ℕ) (i : Instr) → store ≡ word_of (answer i) → state out.new tab.new result ≡ after_t (leave_of i) e 0 (state out.old tab.old a) }
 {
     let a = emission::ins(out, tab, a, store);
     let a = emission::mov(out, tab, a, 0, DONE);
@@ -142,7 +142,7 @@ pub fn exit_imm(
 
 // A site's branch, to the word behind it until `link` patches it, and pc.
 fn back(out: &mut [u32], tab: &mut [u64; 6152], a: Asm, off: u32, pc: u32) -> Asm
-    ensures { (n : Depth) (e : Var n → ℕ) → state out.new tab.new result ≡ after_t (backOf off pc) e 0 (state out.old tab.old a) }
+    ensures { (n : Depth) (e : Var n → ℕ) → state out.new tab.new result ≡ after_t (back_of off pc) e 0 (state out.old tab.old a) }
 {
     let back = asm::new_label(a);
     let a = asm::b(out, tab, back.a, back.l);
@@ -161,7 +161,7 @@ pub fn chain(
     pc: u32,
     count: u32,
 ) -> Chained
-    ensures { (n : Depth) (e : Var n → ℕ) → (state out.new tab.new result.a ≡ after_t (chainOf (placed lay) rc pc count) e 0 (state out.old tab.old a)) × ((result.at ∷ []) ≡ starts_t (chainOf (placed lay) rc pc count) e 0 (state out.old tab.old a)) }
+    ensures { (n : Depth) (e : Var n → ℕ) → (state out.new tab.new result.a ≡ after_t (chain_of (placed lay) rc pc count) e 0 (state out.old tab.old a)) × ((result.at ∷ []) ≡ starts_t (chain_of (placed lay) rc pc count) e 0 (state out.old tab.old a)) }
 {
     let a = emission::flush(out, tab, a, lay, rc);
     let a = emission::add_imm(out, tab, a, DONE, DONE, count);
@@ -192,7 +192,7 @@ pub fn fork(
     count: u32,
 ) -> Forked
     requires { cond < 16 }
-    ensures { (state out.new tab.new result.a ≡ after_t (forkOf (placed lay) rc cond pc target count) nowhere 0 (state out.old tab.old a)) × ((result.at ∷ result.target_at ∷ []) ≡ starts_t (forkOf (placed lay) rc cond pc target count) nowhere 0 (state out.old tab.old a)) }
+    ensures { (state out.new tab.new result.a ≡ after_t (fork_of (placed lay) rc cond pc target count) nowhere 0 (state out.old tab.old a)) × ((result.at ∷ result.target_at ∷ []) ≡ starts_t (fork_of (placed lay) rc cond pc target count) nowhere 0 (state out.old tab.old a)) }
 {
     let taken = asm::new_label(a);
     let a = asm::b_cond(out, tab, taken.a, cond, taken.l);
@@ -220,7 +220,7 @@ fn brk_first(out: &mut [u32], tab: &mut [u64; 6152], a: Asm, brk: bool, back: La
 
 // Into the table's body for pc w12, or back.
 fn lookup(out: &mut [u32], tab: &mut [u64; 6152], a: Asm, table: u64, back: Label) -> Asm
-    ensures { (n : Depth) (e : Var n → ℕ) → state out.new tab.new result ≡ after_t (lookupOf table) (inside back.0 e) 0 (state out.old tab.old a) }
+    ensures { (n : Depth) (e : Var n → ℕ) → state out.new tab.new result ≡ after_t (lookup_of table) (inside back.0 e) 0 (state out.old tab.old a) }
 {
     let a = emission::ins(
         out,
@@ -263,7 +263,7 @@ pub fn ind(
     count: u32,
     brk: bool,
 ) -> Asm
-    ensures { state out.new tab.new result ≡ after_t (indOf (tabled lay table) rc t count brk) nowhere 0 (state out.old tab.old a) }
+    ensures { state out.new tab.new result ≡ after_t (ind_of (tabled lay table) rc t count brk) nowhere 0 (state out.old tab.old a) }
 {
     let a = emission::flush(out, tab, a, lay, rc);
     let a = emission::mov(out, tab, a, 12, t);
@@ -282,7 +282,7 @@ pub fn ind(
 
 // The hold mark, between the two operations of a glued pair.
 fn hold(out: &mut [u32], tab: &mut [u64; 6152], a: Asm, lay: Layout, glue: bool) -> Asm
-    ensures { (rc : RegCache) → state out.new tab.new result ≡ emitted (holdOf (placed lay) rc glue) (state out.old tab.old a) }
+    ensures { (rc : RegCache) → state out.new tab.new result ≡ emitted (hold_of (placed lay) rc glue) (state out.old tab.old a) }
 {
     if glue {
         let a = moves::mov32(out, tab, a, 9, 1);
@@ -336,7 +336,7 @@ pub fn limit(
 
 // The caller's registers are saved.
 fn saves(out: &mut [u32], tab: &mut [u64; 6152], a: Asm) -> Asm
-    ensures { state out.new tab.new result ≡ emitted savesOf (state out.old tab.old a) }
+    ensures { state out.new tab.new result ≡ emitted saves_of (state out.old tab.old a) }
 {
     let a = pair(out, tab, a, Mode::Pre, Pair::Stp, 116, 29, 30);
     let a = pair(out, tab, a, Mode::Offset, Pair::Stp, 2, CPU, CTX);
@@ -348,7 +348,7 @@ fn saves(out: &mut [u32], tab: &mut [u64; 6152], a: Asm) -> Asm
 
 // The arguments go to their registers, and nothing is done yet.
 fn arguments(out: &mut [u32], tab: &mut [u64; 6152], a: Asm) -> Asm
-    ensures { state out.new tab.new result ≡ emitted argumentsOf (state out.old tab.old a) }
+    ensures { state out.new tab.new result ≡ emitted arguments_of (state out.old tab.old a) }
 {
     let a = emission::mov_x(out, tab, a, CPU, 0);
     let a = emission::mov_x(out, tab, a, CTX, 1);
@@ -366,7 +366,7 @@ fn arguments(out: &mut [u32], tab: &mut [u64; 6152], a: Asm) -> Asm
 
 // The opening words; chained blocks enter behind them.
 pub fn opening(out: &mut [u32], tab: &mut [u64; 6152], a: Asm) -> Asm
-    ensures { state out.new tab.new result ≡ emitted openingOf (state out.old tab.old a) }
+    ensures { state out.new tab.new result ≡ emitted opening_of (state out.old tab.old a) }
 {
     let a = saves(out, tab, a);
     arguments(out, tab, a)
@@ -374,7 +374,7 @@ pub fn opening(out: &mut [u32], tab: &mut [u64; 6152], a: Asm) -> Asm
 
 // The common exit: the caller's registers again, and back.
 pub fn closing(out: &mut [u32], tab: &mut [u64; 6152], a: Asm) -> Asm
-    ensures { state out.new tab.new result ≡ emitted closingOf (state out.old tab.old a) }
+    ensures { state out.new tab.new result ≡ emitted closing_of (state out.old tab.old a) }
 {
     let a = pair(out, tab, a, Mode::Offset, Pair::Ldp, 10, LIMIT, 28);
     let a = pair(out, tab, a, Mode::Offset, Pair::Ldp, 8, 25, DONE);

@@ -6,8 +6,8 @@ ghost use Rattle.code.specs.Items.{pick};
 ghost use Rattle.arm.specs.declared.Instr.{Instr};
 ghost use Rattle.lowering.specs.Given.{given};
 ghost use Rattle.lowering.specs.Fragments.{field_at};
-ghost use Rattle.lowering.specs.Instrs.{add_lsl, csel as cselOf, lsl_i, lsr_i, asr_i};
-ghost use Rattle.lowering.specs.Steps.{Step as Meant, Field, rhs, base as base_of, low as low_of, alu as aluOf, acond as acondOf, ext as extOf, choice, ones as onesOf, hole as holeOf, sign as sign_of};
+ghost use Rattle.lowering.specs.Instrs.{add_lsl, csel as csel_of, lsl_i, lsr_i, asr_i};
+ghost use Rattle.lowering.specs.Steps.{Step as Meant, Field, rhs, base as base_of, low as low_of, alu as alu_of, acond as acond_of, ext as ext_of, choice, ones as ones_of, hole as hole_of, sign as sign_of};
 ghost use Rattle.words.specs.Answers.{answer, word_of};
 ghost use Rattle.choices.specs.Meaning.{instr_of};
 ghost use Rattle.lower.specs.Lowers.{ats_of, targets_of, kept, Lowers};
@@ -107,21 +107,21 @@ pub fn named(out: &mut [u32], tab: &mut [u64; 6152], q: Lowered, f: Fixed) -> Lo
 
 // w0 = op(w0, w1)
 pub fn alu(out: &mut [u32], tab: &mut [u64; 6152], q: Lowered, op: Op) -> Lowered
-    ensures { (blk : Block) → Lowers blk (Meant.ins (aluOf op) ∷ []) out.old tab.old q out.new tab.new result }
+    ensures { (blk : Block) → Lowers blk (Meant.ins (alu_of op) ∷ []) out.old tab.old q out.new tab.new result }
 {
     ins(out, tab, q, choices::alu(op))
 }
 
 // A part of w0, with its sign or without.
 pub fn ext(out: &mut [u32], tab: &mut [u64; 6152], q: Lowered, part: Part, signed: bool) -> Lowered
-    ensures { (blk : Block) → Lowers blk (Meant.ins (extOf part signed) ∷ []) out.old tab.old q out.new tab.new result }
+    ensures { (blk : Block) → Lowers blk (Meant.ins (ext_of part signed) ∷ []) out.old tab.old q out.new tab.new result }
 {
     ins(out, tab, q, choices::ext(part, signed))
 }
 
 // w0 or w1, by the flags
 pub fn select(out: &mut [u32], tab: &mut [u64; 6152], q: Lowered, kind: Choice) -> Lowered
-    ensures { (blk : Block) → Lowers blk (Meant.ins (cselOf 0 0 1 (choice kind)) ∷ []) out.old tab.old q out.new tab.new result }
+    ensures { (blk : Block) → Lowers blk (Meant.ins (csel_of 0 0 1 (choice kind)) ∷ []) out.old tab.old q out.new tab.new result }
 {
     ins(out, tab, q, choices::select(kind))
 }
@@ -155,14 +155,14 @@ pub fn add_lsl(out: &mut [u32], tab: &mut [u64; 6152], q: Lowered, n: u8) -> Low
 
 // w2 = so many ones
 pub fn ones(out: &mut [u32], tab: &mut [u64; 6152], q: Lowered, l: u8) -> Lowered
-    ensures { (blk : Block) → Lowers blk (Meant.mov32 2 (onesOf (l % 32)) ∷ []) out.old tab.old q out.new tab.new result }
+    ensures { (blk : Block) → Lowers blk (Meant.mov32 2 (ones_of (l % 32)) ∷ []) out.old tab.old q out.new tab.new result }
 {
     mov32(out, tab, q, 2, choices::ones(l))
 }
 
 // w2 = all bits but so many, from p on
 pub fn hole(out: &mut [u32], tab: &mut [u64; 6152], q: Lowered, p: u8, l: u8) -> Lowered
-    ensures { (blk : Block) → Lowers blk (Meant.mov32 2 (holeOf (p % 32) (l % 32)) ∷ []) out.old tab.old q out.new tab.new result }
+    ensures { (blk : Block) → Lowers blk (Meant.mov32 2 (hole_of (p % 32) (l % 32)) ∷ []) out.old tab.old q out.new tab.new result }
 {
     mov32(out, tab, q, 2, choices::hole(p, l))
 }
@@ -432,7 +432,7 @@ pub fn fork_if(
     target: u32,
     count: u32,
 ) -> Lowered
-    ensures { (mem : Memory) (addr : Addresses) → Lowers (given lay mem addr) (Meant.fork (acondOf cond) pc target count ∷ []) out.old tab.old q out.new tab.new result }
+    ensures { (mem : Memory) (addr : Addresses) → Lowers (given lay mem addr) (Meant.fork (acond_of cond) pc target count ∷ []) out.old tab.old q out.new tab.new result }
 {
     fork(out, tab, q, lay, choices::acond(cond), pc, target, count)
 }

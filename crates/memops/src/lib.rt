@@ -3,7 +3,7 @@
 
 ghost use Rattle.std.specs.Prelude.{◌≡◌, [], ◌∷◌};
 ghost use Rattle.code.specs.Tree.{inner, outer, inside, nowhere};
-ghost use Rattle.lowering.specs.Instrs.{sub as subOf, indexed as indexedOf};
+ghost use Rattle.lowering.specs.Instrs.{sub as sub_of, indexed as indexed_of};
 ghost use Rattle.lowering.specs.Fragments.{try_region, align_test, map_test, call, load as load_of, store as store_of};
 ghost use Rattle.lowering.specs.Given.{given, placed};
 ghost use Rattle.asm.specs.State.{state};
@@ -16,7 +16,7 @@ use block::{Addresses, Layout, Memory, Width};
 use lowering::RegCache;
 
 fn sub(out: &mut [u32], tab: &mut [u64; 6152], a: Asm, rd: u32, rn: u32, rm: u32) -> Asm
-    ensures { state out.new tab.new result ≡ emitted (subOf rd rn rm ∷ []) (state out.old tab.old a) }
+    ensures { state out.new tab.new result ≡ emitted (sub_of rd rn rm ∷ []) (state out.old tab.old a) }
 {
     emission::ins(
         out,
@@ -45,7 +45,7 @@ fn indexed(
     rn: u32,
     rm: u32,
 ) -> Asm
-    ensures { state out.new tab.new result ≡ emitted (indexedOf access rt rn rm ∷ []) (state out.old tab.old a) }
+    ensures { state out.new tab.new result ≡ emitted (indexed_of access rt rn rm ∷ []) (state out.old tab.old a) }
 {
     emission::ins(
         out,

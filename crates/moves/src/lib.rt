@@ -4,7 +4,7 @@
 ghost use Rattle.std.specs.Prelude.{◌≡◌, ℕ, ◌+◌, ◌-◌, ◌<◌, List, [], ◌∷◌, ◌++◌};
 ghost use Rattle.block.specs.Block.{bytes as bytes_of};
 ghost use Rattle.lowering.specs.Instrs.{mov32 as mov32_of};
-ghost use Rattle.lowering.specs.Fragments.{add_imm, even as evenOf, extended as extendedOf, loads as loadsOf, stores as stores_of};
+ghost use Rattle.lowering.specs.Fragments.{add_imm, even as even_of, extended as extended_of, loads as loads_of, stores as stores_of};
 ghost use Rattle.asm.specs.State.{state};
 ghost use Rattle.emission.specs.Total.{emitted};
 
@@ -76,7 +76,7 @@ pub fn room(len: u32, size: u32) -> u32
 
 // The load of a width, sign-extended or not.
 pub fn loads(w: Width, signed: bool) -> Access
-    ensures { result ≡ loadsOf w signed }
+    ensures { result ≡ loads_of w signed }
 {
     match w {
         Width::Byte => if signed { Access::Ldrsb } else { Access::Ldrb },
@@ -97,7 +97,7 @@ pub fn stores(w: Width) -> Access
 
 // What a helper gave, to 32 bits.
 pub fn extended(out: &mut [u32], tab: &mut [u64; 6152], a: Asm, w: Width, signed: bool) -> Asm
-    ensures { state out.new tab.new result ≡ emitted (extendedOf w signed) (state out.old tab.old a) }
+    ensures { state out.new tab.new result ≡ emitted (extended_of w signed) (state out.old tab.old a) }
 {
     if !signed {
         return a;
@@ -121,7 +121,7 @@ pub fn extended(out: &mut [u32], tab: &mut [u64; 6152], a: Asm, w: Width, signed
 
 // A halfword is the one at the address with its lowest bit cleared.
 pub fn even(out: &mut [u32], tab: &mut [u64; 6152], a: Asm, w: Width) -> Asm
-    ensures { state out.new tab.new result ≡ emitted (evenOf w) (state out.old tab.old a) }
+    ensures { state out.new tab.new result ≡ emitted (even_of w) (state out.old tab.old a) }
 {
     match w {
         Width::Byte => a,

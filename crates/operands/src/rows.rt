@@ -1,6 +1,6 @@
 // The table of kinds, a row for each: how many operands it has and their ranges, and the operation made of them.
 ghost use Rattle.std.specs.Prelude.{◌≡◌, ◌<◌};
-ghost use Rattle.operands.specs.Kinds.{width, fits as fitsIn, fast_of};
+ghost use Rattle.operands.specs.Kinds.{width, fits as fits_in, fast_of};
 ghost use Rattle.operands.specs.Rows.{shape_of};
 
 use crate::selectors::{
@@ -30,7 +30,7 @@ const MASK: u32 = 65535;
 const NIB: u32 = 15;
 
 fn is_width(x: u32) -> bool
-    ensures { result ≡ fitsIn width x }
+    ensures { result ≡ fits_in width x }
 {
     (x == 1) | ((x == 2) | (x == 4))
 }

@@ -1,18 +1,17 @@
 -- The invariant of the loop, in Order.antt: so far the order is that behind the use, and slot i was met or not.
 use native.Mathlib.Omega.{arith}
 use mathlib.Core.Path.{◌≡◌, subst}
-use mathlib.Core.Logic.{⊎_elim}
 use Prim.Native.Nat.{◌-◌}
 use Rattle.cache.proofs.Order.{Sofar, turn_on, turn_off, kept_last}
-use Rattle.cache.proofs.latest.Reads as reads
 use Rattle.cache.proofs.latest.Goals as goal
+use Rattle.cache.proofs.latest.Goals.{then-met, else-met}
 
 pub loop-k-preserved : goal.loop-k-preserved
 loop-k-preserved c =
     let l = c.loop-k in
     let on = turn_on _ _ _ _ _ l.invariant.1 (omega arith) in
     let off = turn_off _ _ _ _ _ l.invariant.1 (omega arith) in
-    (omega arith, ⊎_elim (λ w. on _ w.0.taken w.1) (λ w. off _ w.0.left w.1) c.if-met.branch)
+    (omega arith, elim c.if-met.branch [ then-met w ↦ on _ w.if-met.true w.q-is | else-met w ↦ off _ w.if-met.false w.q-is ])
 
 pub returns-else-met-2 : goal.returns-else-met-2
 returns-else-met-2 c =

@@ -1,7 +1,6 @@
 -- The invariant of the loop, in Order.antt: so far the order is that behind the use, and slot i was met or not.
 use Prim.Native.Nat.{◌≤◌, ◌-◌}
 use Rattle.cache.proofs.Order.{Sofar}
-use Rattle.cache.proofs.latest.Reads as reads
 use Rattle.cache.proofs.latest.Given as goal
 
 abbrev pub invariant-loop-k : goal.invariant-loop-k

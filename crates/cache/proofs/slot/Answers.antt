@@ -2,13 +2,12 @@
 use native.Mathlib.Omega.{arith}
 use Prim.Native.Nat.{◌-◌}
 use Rattle.cache.proofs.Search.{position_here, position_later, found_at}
-use Rattle.cache.proofs.slot.Reads as reads
 use Rattle.cache.proofs.slot.Goals as goal
 
 pub returns-then-guest-i : goal.returns-then-guest-i
 returns-then-guest-i c =
     let l = c.loop-i in
-    let guest = c.args.rc.guest-1 in
+    let guest = c.args.rc.guest in
     let r = c.args.r in
     found_at c.args.rc r l.i c.loop-i-test.true
     (omega (arith, position_here guest l.i r (omega (arith, l.invariant.1)) c.if-guest-i.true, l.invariant.2))
@@ -16,6 +15,6 @@ returns-then-guest-i c =
 pub loop-i-preserved : goal.loop-i-preserved
 loop-i-preserved c =
     let l = c.loop-i in
-    let guest = c.args.rc.guest-1 in
+    let guest = c.args.rc.guest in
     let r = c.args.r in
     (omega arith, l.invariant.1, omega (arith, position_later guest l.i r (omega (arith, l.invariant.1)) c.if-guest-i.false, l.invariant.2))

@@ -3,7 +3,6 @@ use Prim.Native.Nat.{◌+◌, ◌≤◌, ◌-◌}
 use mathlib.Core.Path.{◌≡◌}
 use lib.ListN.{length, drop}
 use Rattle.lowering.specs.Cache.{position}
-use Rattle.cache.proofs.slot.Reads as reads
 use Rattle.cache.proofs.slot.Given as goal
 
 abbrev pub invariant-loop-i : goal.invariant-loop-i
