@@ -1,5 +1,5 @@
 -- `link`: the branch from a chain site to a body, both addresses as signed 64-bit numbers.
-use Rattle.std.specs.Prelude.{ℕ, ◌^◌, Bool, eqb, ℤ, pos, ◌-ℤ◌}
+use Rattle.std.specs.Prelude.{◌^◌, Bool, eqb, ℤ, pos, ◌-ℤ◌}
 use Rattle.std.specs.Int.Signed.{quot_z}
 use Rattle.arm.specs.Decode.{both}
 use Rattle.arm.specs.Instr.{encode}

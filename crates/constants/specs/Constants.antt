@@ -1,5 +1,5 @@
 -- The instructions of a constant, as jit_a64.rs and `Gen::add_imm` write them.
-use Rattle.std.specs.Prelude.{ℕ, ◌+◌, ◌-◌, ◌/◌, ◌%◌, ◌^◌, Bool, true, false, List, [], ◌∷◌, ◌++◌, ◌==◌, nat_lt}
+use Rattle.std.specs.Prelude.{ℕ, ◌-◌, ◌/◌, ◌%◌, ◌^◌, Bool, true, false, List, [], ◌∷◌, ◌++◌, ◌==◌, nat_lt}
 use Rattle.arm.specs.declared.Size.TheVariants.{W, X}
 use Rattle.arm.specs.declared.Move.TheVariants.{Movn, Movz, Movk}
 use Rattle.arm.specs.declared.AddSub.TheVariants.{Add, Sub}
