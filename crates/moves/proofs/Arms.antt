@@ -32,11 +32,11 @@ module _ (rd v : ℕ) (xs : List Instr) where
 pub even-arm : (w p : Width) (xs : List Instr) → w ≡ p → xs ≡ even p → xs ≡ even w
 even-arm w p xs e h = h ∙ ap even (sym e)
 
-pub extended-arm : (w p : Width) (u : Bool) (xs : List Instr) → w ≡ p → not u ≡ false → xs ≡ extended p true → xs ≡ extended w u
+pub extended-arm : (w p : Width) (u : Bool) (xs : List Instr) → w ≡ p → u ≡ true → xs ≡ extended p true → xs ≡ extended w u
 extended-arm w p true xs e f h = h ∙ ap (λ q. extended q true) (sym e)
 extended-arm w p false xs e f h = cc
 
-pub extended_none : (w : Width) (u : Bool) (xs : List Instr) → not u ≡ true → xs ≡ [] → xs ≡ extended w u
+pub extended_none : (w : Width) (u : Bool) (xs : List Instr) → u ≡ false → xs ≡ [] → xs ≡ extended w u
 unfolding extended
 extended_none w true xs e h = cc
 extended_none B8 false xs e h = h
