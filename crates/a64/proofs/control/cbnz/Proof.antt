@@ -1,8 +1,0 @@
--- `a64::control::cbnz` meets its contract. Assumes nothing.
-use borrow.Author.Rules.{rules}
-use mir.Facts.{to_z-of_z}
-use Rattle.a64.proofs.control.cbnz.Statement.{statement}
-use Rattle.a64.proofs.control.cbnz.Tie as tie
-
-pub cbnz-spec : {M : Type 1} → statement M
-cbnz-spec = tie.close (tie.spec (λ c κs. search rules) (λ c κs. search rules) (λ c κs. search rules) (λ c. cc (to_z-of_z c.before.before.before.ranges.distance)))

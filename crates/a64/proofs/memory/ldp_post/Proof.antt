@@ -1,8 +1,0 @@
--- `a64::memory::ldp_post` meets its contract. Assumes nothing.
-use borrow.Author.Rules.{rules}
-use mir.Facts.{to_z-of_z}
-use Rattle.a64.proofs.memory.ldp_post.Statement.{statement}
-use Rattle.a64.proofs.memory.ldp_post.Tie as tie
-
-pub ldp-post-spec : {M : Type 1} → statement M
-ldp-post-spec = tie.close (tie.spec (λ c κs. search rules) (λ c κs. search rules) (λ c κs. search rules) (λ c. cc (to_z-of_z c.before.before.before.ranges.off)))
