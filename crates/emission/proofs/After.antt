@@ -3,7 +3,7 @@ use mathlib.Core.Path.{◌≡◌, refl, sym, ap, ◌∙◌}
 use mathlib.Core.List.{List, [], ◌∷◌, ◌++◌, map, map-append}
 use Prim.Native.Nat.{ℕ}
 use Rattle.arm.specs.declared.Instr.{Instr}
-use Rattle.code.specs.Items.{Hole, adr, ldr, Place, label, literal, Item, ins, go, new, bind, index}
+use Rattle.code.specs.Items.{Hole, adr, ldr, label, literal, Item, ins, go, new, bind, index}
 use Rattle.code.specs.Tree.{Depth, under, Var, Code, code, lit, to, exit, block, start, ◌then◌, inside}
 use Rattle.code.specs.Calls.{calls, next_l, bumped}
 use Rattle.asm.specs.State.{State, word, put, made, fixed, held, keep_at}

@@ -4,9 +4,9 @@ use mathlib.Core.List.{List, [], ◌∷◌, ◌++◌, map}
 use Prim.Native.Nat.{ℕ}
 use Rattle.arm.specs.declared.Instr.{Instr}
 use Rattle.arm.specs.Instr.{encode, Carried}
-use Rattle.words.specs.Answers.{answer, word_of}
+use Rattle.words.specs.Answers.{word_of}
 use Rattle.words.proofs.Answers.{carried-word}
-use Rattle.code.specs.Items.{Item, ins, go, new, bind, Sound, Place, label, literal}
+use Rattle.code.specs.Items.{Item, ins, go, new, bind, Sound, label, literal}
 use Rattle.code.specs.Tree.{Depth, Var, Code, code, lit, to, exit, block, start, ◌then◌, Fine, inside}
 use Rattle.code.specs.Calls.{calls, next_l, bumped}
 use Rattle.asm.specs.State.{State, word, put, run}

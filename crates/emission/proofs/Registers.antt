@@ -1,6 +1,6 @@
 -- A guest register's move by each answer of the lookup, as it is emitted: t is the temporary, i the slot, h its host register.
 use mathlib.Core.Path.{◌≡◌, ap, ap₂, ◌∙◌}
-use mathlib.Core.List.{List, [], ◌∷◌, ◌++◌}
+use mathlib.Core.List.{[], ◌∷◌, ◌++◌}
 use Prim.Native.Nat.{ℕ, ◌/◌}
 use Rattle.arm.specs.declared.Access.TheVariants.{LdrW, StrW}
 use Rattle.arm.specs.declared.Instr.TheVariants.{MemoryImm}

@@ -1,7 +1,7 @@
 -- A flush, a slot at a time.
 use mathlib.Core.Path.{◌≡◌, refl, sym, ap, ◌∙◌}
 use mathlib.Core.Bool.{Bool, true, false, not, ◌&&◌}
-use mathlib.Core.List.{List, [], ◌∷◌, ◌++◌, map}
+use mathlib.Core.List.{List, [], ◌∷◌}
 use Prim.Native.Nat.{ℕ, suc, ◌+◌, ◌/◌, ◌<◌, ◌≤◌}
 use native.Mathlib.Numerals.{add-one}
 use native.Mathlib.Omega.{arith}
@@ -13,8 +13,7 @@ use Rattle.arm.specs.declared.Access.TheVariants.{StrW, LdrW}
 use Rattle.arm.specs.declared.Instr.{Instr}
 use Rattle.arm.specs.declared.Instr.TheVariants.{MemoryImm}
 use Rattle.block.specs.declared.Layout.{Layout}
-use Rattle.code.specs.Items.{pick, Item, ins}
-use Rattle.lowering.specs.declared.RegCache.{RegCache}
+use Rattle.code.specs.Items.{pick}
 use Rattle.lowering.specs.Instrs.{CPU, ldr, str}
 use Rattle.lowering.specs.Cache.{POOL, host, FREE, off_reg, flush_from, reload_from}
 use Rattle.words.specs.Answers.{answer, word_of}

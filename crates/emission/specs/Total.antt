@@ -1,10 +1,10 @@
 -- What the code emits for an item, whatever its operands: for one that no word carries, the word 0.
-use Rattle.std.specs.Prelude.{Bool, true, false, not, ◌&&◌, List, [], ◌∷◌, ◌++◌, map, ℕ, eqb}
+use Rattle.std.specs.Prelude.{Bool, not, ◌&&◌, List, [], ◌∷◌, ◌++◌, map, ℕ, eqb}
 use Rattle.arm.specs.declared.Instr.{Instr}
 use Rattle.block.specs.declared.Layout.{Layout}
 use Rattle.lowering.specs.Instrs.{CPU, ldr, str}
 use Rattle.lowering.specs.Cache.{FREE, off_reg}
-use Rattle.code.specs.Items.{pick, Item, ins, go, new, bind, Place}
+use Rattle.code.specs.Items.{pick, Item, ins, go, new, bind}
 use Rattle.words.specs.Answers.{answer, word_of}
 use Rattle.code.specs.Tree.{Depth, Var, Code, code, lit, to, exit, block, start, ◌then◌, inside}
 use Rattle.code.specs.Calls.{calls}

@@ -5,27 +5,25 @@ use mathlib.Core.List.{List, [], ◌∷◌, ◌++◌}
 use Prim.Native.Nat.{ℕ}
 use Rattle.arm.specs.declared.Size.TheVariants.{W}
 use Rattle.arm.specs.declared.Test.TheVariants.{Zero as is_zero, Nonzero as nonzero}
-use Rattle.arm.specs.declared.Mode.TheVariants.{Post, Offset, Pre}
-use Rattle.arm.specs.declared.Pair.TheVariants.{Stp, Ldp}
 use Rattle.arm.specs.declared.Instr.{Instr}
 use Rattle.block.specs.declared.Layout.{Layout}
 use Rattle.block.specs.declared.Block.{Block}
 use Rattle.code.specs.Items.{Hole, b, b_cond, cb, adr, ldr as ldr_hole, label, literal, go, new, bind}
-use Rattle.code.specs.Tree.{Depth, top, under, Var, inner, Code, code, to, exit, block, start, ◌then◌, inside, nowhere}
+use Rattle.code.specs.Tree.{Depth, top, under, Var, inner, Code, code, to, block, start, ◌then◌, inside, nowhere}
 use Rattle.lowering.specs.declared.RegCache.{RegCache}
 use Rattle.lowering.specs.Cache.{flush}
-use Rattle.lowering.specs.Instrs.{CPU, CTX, RAM, XIP, KEEP, KEEP2, FLAGS, DONE, LIMIT, NE, LS, mov, mov_x, movz, mov32, add_i, add_xLsl, cmp}
-use Rattle.lowering.specs.Instrs.{ubfx, ldr, str, ldr_x, str_x, frame, br, ret}
-use Rattle.lowering.specs.Fragments.{OFF_BRK, OFF_SLOT, brk_first, hold, exit_imm, chain, ind, check_brk, fork, limit, opening, closing}
+use Rattle.lowering.specs.Instrs.{CPU, CTX, DONE, LIMIT, NE, LS, mov, mov32, add_i, add_xLsl, cmp}
+use Rattle.lowering.specs.Instrs.{ubfx, ldr, str, ldr_x, str_x, br}
+use Rattle.lowering.specs.Fragments.{OFF_BRK, OFF_SLOT, brk_first, hold, exit_imm, chain, ind, check_brk, fork, limit}
 use Rattle.lowering.specs.Given.{placed}
 use Rattle.asm.specs.declared.Asm.{Asm}
 use Rattle.asm.specs.declared.Made.{Made}
 use Rattle.asm.specs.State.{State, state, made, put}
 use Rattle.asm.proofs.Laws.{new-put}
 use Rattle.emission.specs.Total.{put_t, emitted, after_t, starts_t}
-use Rattle.emission.proofs.After.{none, more, same, code-after, lit-after, to_after, exit-after, then-after, block-after, start-after}
+use Rattle.emission.proofs.After.{none, more, code-after, lit-after, to_after, exit-after, then-after, block-after, start-after}
 use Rattle.emission.proofs.After.{then-starts}
-use Rattle.jumps.specs.Parts.{tabled, leave, back, lookup, saves, arguments}
+use Rattle.jumps.specs.Parts.{tabled, leave, back, lookup}
 
 -- ---- with the label as `new_label` answers it
 module _ {n : Depth} (e : Var n → ℕ) (ws t : List ℕ) (a : Asm) (m : Made) (q : m ≡ made a) where

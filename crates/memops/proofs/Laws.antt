@@ -14,7 +14,7 @@ use Rattle.block.specs.declared.Memory.{Memory}
 use Rattle.block.specs.declared.Addresses.{Addresses}
 use Rattle.block.specs.Block.{bytes}
 use Rattle.code.specs.Items.{b, b_cond, cb, tb, ldr, label, literal, go, bind}
-use Rattle.code.specs.Tree.{Depth, under, Var, inner, outer, Code, code, block, ◌then◌, inside, nowhere}
+use Rattle.code.specs.Tree.{Depth, under, Var, inner, outer, Code, code, block, inside, nowhere}
 use Rattle.code.specs.Calls.{calls, next_l}
 use Rattle.lowering.specs.declared.RegCache.{RegCache}
 use Rattle.lowering.specs.Cache.{flush, reload}
@@ -68,10 +68,10 @@ helper lay rc f s s₁ s₂ s₃ s₄ p₁ p₂ p₃ p₄ =
     then-after nowhere 0 _ _ s s₁ s₄ (code-after nowhere 0 _ s s₁ p₁)
     (then-after nowhere 0 _ _ s₁ s₂ s₄ (lit-after nowhere 0 9 f s₁ s₂ p₂) (code-after nowhere 0 _ s₂ s₄ (more (blr 9 ∷ []) _ s₂ s₃ s₄ p₃ p₄)))
 
-pub by_read : (lay : Layout) (rc : RegCache) (f k : ℕ) (w : Width) (signed : Bool) (i : ℕ) (s s₁ s₂ s₃ s₄ s₅ s₆ : State) → k ≡ bytes w
+pub by_read_lem : (lay : Layout) (rc : RegCache) (f k : ℕ) (w : Width) (signed : Bool) (i : ℕ) (s s₁ s₂ s₃ s₄ s₅ s₆ : State) → k ≡ bytes w
     → s₁ ≡ emitted (mov 1 0 ∷ []) s → s₂ ≡ emitted (mov_x 0 CTX ∷ []) s₁ → s₃ ≡ emitted (add_i 2 DONE i ∷ []) s₂ → s₄ ≡ emitted (mov32 3 k) s₃
     → s₅ ≡ after_t (call (placed lay) rc f) nowhere 0 s₄ → s₆ ≡ emitted (extended w signed) s₅ → s₆ ≡ after_t (by_read (placed lay) rc f w signed i) nowhere 0 s
-by_read lay rc f k w signed i s s₁ s₂ s₃ s₄ s₅ s₆ ks p₁ p₂ p₃ p₄ p₅ p₆ =
+by_read_lem lay rc f k w signed i s s₁ s₂ s₃ s₄ s₅ s₆ ks p₁ p₂ p₃ p₄ p₅ p₆ =
     then-after nowhere 0 _ _ s s₄ s₆
     (code-after nowhere 0 _ s s₄
     (more (mov 1 0 ∷ []) _ s s₁ s₄ p₁ (more (mov_x 0 CTX ∷ []) _ s₁ s₂ s₄ p₂ (more (add_i 2 DONE i ∷ []) _ s₂ s₃ s₄ p₃ (same _ _ s₃ s₄ (ap (mov32 3) ks) p₄)))))

@@ -1,5 +1,5 @@
 -- The instructions of each return are the definition's.
-use Rattle.std.proofs.Common.{◌≡◌, ℕ, ◌-◌, ◌/◌, ◌%◌, ◌<◌, ◌≤◌, Bool, true, false, not, List, [], ◌∷◌, ◌++◌, sym, refl, ap, ◌∙◌, ap₂, le-ltb, lt-ltb, eq-eqb, ne_eqb}
+use Rattle.std.proofs.Common.{◌≡◌, ℕ, ◌-◌, ◌/◌, ◌%◌, ◌<◌, ◌≤◌, Bool, true, false, List, [], ◌∷◌, ◌++◌, sym, ap, ◌∙◌, ap₂, le-ltb, lt-ltb, eq-eqb, ne_eqb}
 use Rattle.arm.specs.declared.Size.TheVariants.{W}
 use Rattle.arm.specs.declared.Move.TheVariants.{Movn, Movz, Movk}
 use Rattle.arm.specs.declared.Access.{Access}

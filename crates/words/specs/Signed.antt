@@ -1,6 +1,5 @@
 -- Signed numbers in fields of two's complement.
 use Rattle.std.specs.Prelude.{ℕ, ◌+◌, ◌-◌, ◌%◌, Bool, ltb, ℤ, pos, negsuc}
-use Rattle.std.specs.Int.Signed.{mag}
 
 -- from -half to half - 1 (negsuc n is -(n + 1))
 abbrev pub reaches : ℕ → ℤ → Bool

@@ -1,5 +1,4 @@
 -- The invariant: the value is none of the literals that are passed. The measure is how many are left.
-use Prim.Native.Nat.{◌-◌}
 use native.Mathlib.Omega.{arith}
 use Rattle.asm.proofs.Cases.{passed_none, passed-hit, passed_miss, passed_all}
 use Rattle.asm.proofs.find.Goals as goal

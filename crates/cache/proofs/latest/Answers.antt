@@ -1,7 +1,6 @@
 -- The invariant of the loop, in Order.antt: so far the order is that behind the use, and slot i was met or not.
 use native.Mathlib.Omega.{arith}
 use mathlib.Core.Path.{◌≡◌, subst}
-use Prim.Native.Nat.{◌-◌}
 use Rattle.cache.proofs.Order.{Sofar, turn_on, turn_off, kept_last}
 use Rattle.cache.proofs.latest.Goals as goal
 use Rattle.cache.proofs.latest.Goals.{then-met, else-met}

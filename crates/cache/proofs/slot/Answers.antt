@@ -1,6 +1,5 @@
 -- So far the guest register was not found: its position is i and that in the rest.
 use native.Mathlib.Omega.{arith}
-use Prim.Native.Nat.{◌-◌}
 use Rattle.cache.proofs.Search.{position_here, position_later, found_at}
 use Rattle.cache.proofs.slot.Goals as goal
 

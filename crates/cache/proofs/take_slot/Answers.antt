@@ -17,12 +17,11 @@ returns-in-At c =
 
 pub returns-then-rc-i : goal.returns-then-rc-i
 returns-then-rc-i c =
-    let o = c in
-    let e = sym o.in_default.is ∙ o.slot-free.ensures in
-    let lay = o.args.lay in
-    let rc = o.args.rc in
-    let old = o.oldest-i.ensures in
-    let store : MemoryImm StrW c.off_reg.result CPU c.host.result ≡ str (host o.oldest-i.result) CPU (off_reg lay (get_or rc.guest o.oldest-i.result 0)) = cc (c.off_reg.ensures, c.host.ensures) in
+    let e = sym c.in_default.is ∙ c.slot-free.ensures in
+    let lay = c.args.lay in
+    let rc = c.args.rc in
+    let old = c.oldest-i.ensures in
+    let store : MemoryImm StrW c.off_reg.result CPU c.host.result ≡ str (host c.oldest-i.result) CPU (off_reg lay (get_or rc.guest c.oldest-i.result 0)) = cc (c.off_reg.ensures, c.host.ensures) in
     record { chose = old_chosen lay rc _ e old.0; small = old.1; spills = ap (λ i. i ∷ []) store ∙ dirty-spill lay rc _ e old.0 c.if-rc-i.true }
 
 pub returns : goal.returns

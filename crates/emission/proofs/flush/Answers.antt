@@ -14,7 +14,7 @@ loop-i-preserved c =
       l.invariant.2,
       l.invariant.3,
       elim c.if-dirty-i.branch [
-        then-dirty-i w ↦ rw (w.out-is, w.tab-is, w.q-is)
+        | then-dirty-i w ↦ rw (w.out-is, w.tab-is, w.q-is)
             (one_stored _ _ _ l.invariant.2 l.invariant.3 l.i _ _ _ _ t w.host.ensures w.if-dirty-i.true l.invariant.4 w.flush_slot-q.ensures)
         | else-dirty-i w ↦ rw (w.out-is, w.tab-is, w.q-is) (one_kept _ _ _ l.invariant.2 l.invariant.3 l.i _ _ t w.if-dirty-i.false l.invariant.4)
       ],

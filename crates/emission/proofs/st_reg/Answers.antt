@@ -6,19 +6,14 @@ use Rattle.emission.proofs.st_reg.Goals as goal
 
 pub returns-in-At : goal.returns-in-At
 returns-in-At c =
-    let m = c in
-    let f = m in
-    let e = sym f.in-At.is ∙ f.slot-found.ensures in (
-      st-held _ _ _ _ _ _ e m.host.ensures _ _ m.mov-moved.ensures,
+    let e = sym c.in-At.is ∙ c.slot-found.ensures in (
+      st-held _ _ _ _ _ _ e c.host.ensures _ _ c.mov-moved.ensures,
       c.mark.ensures ∙ ap (mark _) c.touch.ensures ∙ held-stored _ _ _ e,
     )
 
 pub returns : goal.returns
 returns c =
-    let m = c in
-    let s = m in
-    let n = s in
-    let e = sym n.in_default.is ∙ n.slot-found.ensures in (
-      st-new _ _ _ _ _ _ e n.take_slot-taken.ensures m.host-2.ensures _ _ s.spill-freed.ensures _ m.mov-moved-2.ensures,
-      c.mark-2.ensures ∙ ap (mark _) c.assign.ensures ∙ new-stored _ _ _ e n.take_slot-taken.ensures.chose,
+    let e = sym c.in_default.is ∙ c.slot-found.ensures in (
+      st-new _ _ _ _ _ _ e c.take_slot-taken.ensures c.host-2.ensures _ _ c.spill-freed.ensures _ c.mov-moved-2.ensures,
+      c.mark-2.ensures ∙ ap (mark _) c.assign.ensures ∙ new-stored _ _ _ e c.take_slot-taken.ensures.chose,
     )

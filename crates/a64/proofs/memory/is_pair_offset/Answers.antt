@@ -6,12 +6,10 @@ use Rattle.a64.proofs.memory.is_pair_offset.Goals as goal
 
 pub returns-then-reaches : goal.returns-then-reaches
 returns-then-reaches c =
-    let start = c in
-    let x = wide_is start.args.off start.ranges.off in
-    pair_in start.args.off _ _ (c.reaches.ensures ∙ ap (reaches 512) x) c.if-reaches.true (c.twos.ensures.0 ∙ ap (twos 512) x)
+    let x = wide_is c.args.off c.ranges.off in
+    pair_in c.args.off _ _ (c.reaches.ensures ∙ ap (reaches 512) x) c.if-reaches.true (c.twos.ensures.0 ∙ ap (twos 512) x)
 
 pub returns : goal.returns
 returns c =
-    let start = c in
-    let x = wide_is start.args.off start.ranges.off in
-    pair_out start.args.off _ (c.reaches.ensures ∙ ap (reaches 512) x) c.if-reaches.false
+    let x = wide_is c.args.off c.ranges.off in
+    pair_out c.args.off _ (c.reaches.ensures ∙ ap (reaches 512) x) c.if-reaches.false

@@ -6,4 +6,4 @@ pub returns-in-2 : goal.returns-in-2
 returns-in-2 c = rw c.in-2.is
 
 pub returns-in_default : goal.returns-in_default
-returns-in_default c = let s = c in rw (left_over 49 s.args.kind c.in_default.in_default-own.rest s.requires)
+returns-in_default c = rw (left_over 49 c.args.kind c.in_default.in_default-own.rest c.requires)
