@@ -7,8 +7,8 @@ use Rattle.code.specs.Items.{pick, adr, label, literal, Item, ins, go, new, bind
 use Rattle.code.specs.Items.{places_of, Below}
 use Rattle.code.specs.Emit.{kind, St, lead, pooled_words, lay}
 use Rattle.code.specs.Emit.{run as run_e, start as start_e, finish as finish_e}
-use Rattle.code.specs.Tree.{Depth, top, Var, Code, code, lit, to, exit, block, start, ◌then◌, inside, words, labels, jumps, after, items}
-use Rattle.code.specs.Tree.{nowhere, Line, whole_items, whole_lines, pool_in, lines_words}
+use Rattle.code.specs.Tree.{Depth, top, Var, Code, code, lit, to, exit, block, start, ◌then◌, inside, labels, jumps, after, items}
+use Rattle.code.specs.Tree.{nowhere, Line, whole_items, whole_lines, lines_words}
 use Rattle.code.specs.Walk.{patches_of, completed_at, walked_words}
 use Rattle.code.proofs.Emit.{raw-size, table_of, fixes_of, run-words, run-labels, run-pool, run-fixes, placed_is, table-placed}
 use Rattle.code.proofs.Tree.{whole-once, whole_met, whole_below, whole-size, whole-pool, whole_length}

@@ -18,7 +18,7 @@ mag_dist t h n p q = mag_cond (ltb t h) (negsuc (h - suc t)) (pos (t - h)) n (om
 
 -- a small number is the one that 64 bits stand for
 pub as_is : (z : ℤ) → mag z < 2 ^ 40 → to_z w64 (of_z w64 z) ≡ z
-as_is z h = to_z-of_z (record { sfits = omega (arith, h) })
+as_is z h = to_z-of_z {w = w64} (record { sfits = omega (arith, h) })
 
 -- ---- up by half the field's values
 pub mag_up : (z : ℤ) (half n : ℕ) → mag z < n → mag (z +ℤ pos half) < n + suc half

@@ -30,10 +30,10 @@ reach-kind (tb t n rt) = refl
 reach-kind (adr rd) = refl
 reach-kind (ldr rt) = refl
 
-field_in : (half : ℕ) (z : ℤ) → Within half z → field_of half z ≡ twos (2 * half) z
+field_held : (half : ℕ) (z : ℤ) → Within half z → field_of half z ≡ twos (2 * half) z
 unfolding field_of
-field_in half (pos n) h = rw (lt-ltb n half h)
-field_in half (negsuc n) h = rw (lt-ltb n half h)
+field_held half (pos n) h = rw (lt-ltb n half h)
+field_held half (negsuc n) h = rw (lt-ltb n half h)
 
 bytes_in : (z : ℤ) → Within (2 ^ 18) z → Within (2 ^ 20) (bytes z)
 bytes_in (pos n) h = omega arith
@@ -41,10 +41,10 @@ bytes_in (negsuc n) h = omega arith
 
 patch-in : (f : Fix) (z : ℤ) → Within (reach_fix f) z → patch_in f z ≡ patch f z
 unfolding patch_in patch
-patch-in B26 z h = field_in (2 ^ 25) z h
-patch-in B19 z h = ap (λ n. n * 32) (field_in (2 ^ 18) z h)
-patch-in B14 z h = ap (λ n. n * 32) (field_in (2 ^ 13) z h)
-patch-in Adr21 z h = ap (λ n. n % 4 * 2 ^ 29 + n / 4 * 32) (field_in (2 ^ 20) (bytes z) (bytes_in z h))
+patch-in B26 z h = field_held (2 ^ 25) z h
+patch-in B19 z h = ap (λ n. n * 32) (field_held (2 ^ 18) z h)
+patch-in B14 z h = ap (λ n. n * 32) (field_held (2 ^ 13) z h)
+patch-in Adr21 z h = ap (λ n. n % 4 * 2 ^ 29 + n / 4 * 32) (field_held (2 ^ 20) (bytes z) (bytes_in z h))
 
 -- what reaches is near
 near : (half t h : ℕ) → Within half (dist t h) → t < h + suc half

@@ -1,6 +1,7 @@
 -- Reading a block record, from document 01's "The block record" and "Faults, in order": the checked block, or the number and place of
 -- the first fault. A fault's number is 0 where there is none.
-use Rattle.std.specs.Prelude.{◌≡◌, Bool, true, false, cond, not, ◌||◌, List, [], ◌∷◌, ℕ, zero, suc, ◌+◌, ◌-◌, ◌≤◌, leb, ltb, eqb, length, get_or, set, replicate}
+use Rattle.std.specs.Prelude.{◌≡◌, Bool, true, false, cond, not, ◌||◌, leb, ltb, eqb, ℕ, zero, suc, ◌+◌, ◌-◌, ◌≤◌}
+use Rattle.std.specs.Prelude.{List, [], ◌∷◌, length, get_or, set, replicate}
 use Rattle.block.specs.declared.Fast.TheVariants.{Nop}
 use Rattle.block.specs.declared.BOp.{BOp}
 use Rattle.block.specs.declared.Memory.{Memory}

@@ -144,9 +144,9 @@ fn read_ram(s: &[u8]) -> Reading
 
 // The whole reader: any bytes, of any length.
 pub fn read(s: &[u8]) -> Reading
-    ensures value { result ≡ reading s.now }
+    ensures is_reading { result ≡ reading s.now }
     ensures checked { result.answer ≡ Accepted → Checked result.block }
-    ensures told { Told s.now result.answer }
+    ensures number_and_place { Told s.now result.answer }
 {
     let layout = layout_field(s);
     if layout != 0 {

@@ -13,7 +13,8 @@ returns-then-base-ne0 c = rw (le-ltb _ _ c.if-len-lt4.false, ne_eqb _ _ c.if-bas
 
 pub returns-then-base-len-gt4294967296 : goal.returns-then-base-len-gt4294967296
 unfolding region_fault
-returns-then-base-len-gt4294967296 c = rw (le-ltb _ _ c.if-len-lt4.false, eq-eqb _ _ c.if-base-ne0.false, lt-ltb _ _ c.if-base-len-gt4294967296.true)
+returns-then-base-len-gt4294967296 c =
+    rw (le-ltb _ _ c.if-len-lt4.false, eq-eqb _ _ c.if-base-ne0.false, lt-ltb _ _ c.if-base-len-gt4294967296.true)
 
 pub returns : goal.returns
 unfolding region_fault

@@ -1,0 +1,29 @@
+-- The room is short, or it is not.
+use Rattle.std.proofs.Common.{arith}
+use Rattle.asm.specs.State.{state}
+use Rattle.finish.proofs.Cases.{finish-short, finish_long}
+use Rattle.finish.proofs.finish.Goals as goal
+
+pub returns-then-words-total : goal.returns-then-words-total
+returns-then-words-total c =
+    finish-short (state c.args.words.now c.args.tab.now c.args.a) _ _ _ _ _
+    (record {
+      count = c.at_most-k.ensures.0;
+      at = c.at_most.ensures.0;
+      base_is = c.pad-base.ensures.0;
+      padded = c.pad-base.ensures.2;
+      pooled = c.pool.ensures;
+    })
+    _ _ (omega arith) c.zero.ensures
+
+pub returns : goal.returns
+returns c =
+    finish_long (state c.args.words.now c.args.tab.now c.args.a) _ _ _ _ _
+    (record {
+      count = c.at_most-k.ensures.0;
+      at = c.at_most.ensures.0;
+      base_is = c.pad-base.ensures.0;
+      padded = c.pad-base.ensures.2;
+      pooled = c.pool.ensures;
+    })
+    _ _ _ (omega arith) c.at_most-2.ensures.0 c.patch_to.ensures
