@@ -32,7 +32,7 @@ use Rattle.machine.proofs.Bytes.{read_lt}
 use Rattle.machine.proofs.Data.{exec-sbfx}
 use Rattle.card.specs.Card.{Card, asked, Outcome as CardOutcome, read as card_read}
 use Rattle.card.specs.Word.{plus, sign_extend}
-use Rattle.card.specs.Memory.{read_le as card_bytes, load_offset, extend, inside, got, ask, extended as card_extended, load as card_load}
+use Rattle.card.specs.Memory.{read_le as card_bytes, load_offset, extend, got, ask, extended as card_extended, load as card_load}
 use Rattle.lowering.specs.declared.RegCache.{RegCache}
 use Rattle.lowering.specs.Instrs.{CTX, RAM, XIP, DONE, mov, mov_x, mov32, add_i, sbfx, indexed}
 use Rattle.lowering.specs.Fragments.{loads, try_region, extended, call, load, step_code, step_cache}
@@ -40,7 +40,7 @@ use Rattle.lowering.specs.Steps.{Step}
 use Rattle.relation.specs.Lines.{arm, of_effect, bare, exec, taken}
 use Rattle.relation.specs.Abs.{Abs, go, upd, kill, known, if_got, with_temp, mstep}
 use Rattle.relation.specs.Relation.{cls, Body, Kept, Sim, Frag, Meets}
-use Rattle.registers.proofs.Basics.{test, upd_same, upd-upd, cls_lt}
+use Rattle.registers.proofs.Basics.{upd_same, upd-upd, cls_lt}
 use Rattle.registers.proofs.Frags.{frag_map, frag_pre, frag_nil, frag_cons, frag_then, frag_block}
 use Rattle.registers.proofs.Access.{apart-now, count-now, size-now, start-now, indexed-load, indexed_signed}
 use Rattle.registers.proofs.Constants.{below-upd, temp_frag}

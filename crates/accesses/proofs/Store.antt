@@ -36,7 +36,7 @@ use Rattle.machine.proofs.Registers.{W_of_X}
 use Rattle.machine.proofs.Data.{exec_lsr_imm}
 use Rattle.card.specs.Card.{Card, set_ram, asked, Outcome as CardOutcome, write as card_write}
 use Rattle.card.specs.Word.{plus, minus}
-use Rattle.card.specs.Memory.{read_le as card_bytes, write_le as card_put, inside, unaligned_store, holds_code, direct, got, ask}
+use Rattle.card.specs.Memory.{read_le as card_bytes, write_le as card_put, unaligned_store, holds_code, direct, got, ask}
 use Rattle.card.specs.Memory.{store as card_store}
 use Rattle.lowering.specs.declared.RegCache.{RegCache}
 use Rattle.lowering.specs.Instrs.{CTX, RAM, FLAGS, DONE, HI, mov, mov_x, mov32, add_i, sub, cmp, lsr_i, indexed}

@@ -40,6 +40,7 @@ abbrev Elsewhere : Site → Site → Type 0
 Elsewhere s t = s.at ≢ t.at
 
 from : (p q : ℕ) (ss : List Site) (t : Site) → Rise p q (positions ss) → Memᴰ t ss → p ≤ t.at
+from p q [] t r m = elim m [ ]
 from p q (s ∷ ss) t r (Memᴰ.head e) = omega (arith, r.0, ap (λ (u : Site). u.at) e)
 from p q (s ∷ ss) t r (Memᴰ.tail m) = omega (arith, r.0, from (suc s.at) q ss t r.1 m)
 

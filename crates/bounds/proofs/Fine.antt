@@ -1,30 +1,22 @@
 -- Every instruction of a step's code fits its word: the numbers of the step, the offsets of the processor record, and the guest
 -- registers that the cache holds.
-use mathlib.Core.Path.{◌≡◌, refl, sym, ap, subst, ◌∙◌}
-use mathlib.Core.Bool.{Bool, true, false, not, ◌&&◌}
+use mathlib.Core.Path.{◌≡◌, refl}
+use mathlib.Core.Bool.{Bool, true, false, not}
 use mathlib.Core.List.{List, [], ◌∷◌, ◌++◌}
-use Prim.Native.Nat.{ℕ, zero, suc, ◌+◌, ◌-◌, ◌*◌, ◌/◌, ◌%◌, ◌^◌, ◌<◌, ◌≤◌}
+use Prim.Native.Nat.{ℕ, zero, suc, ◌+◌, ◌/◌, ◌%◌, ◌<◌, ◌≤◌}
 use native.Mathlib.Omega.{arith}
-use lib.Dec.{T, eqb, ltb, ltb→lt}
+use lib.Dec.{eqb, ltb, ltb→lt}
 use lib.ListN.{length, get_or, set, length-set}
 use borrow.Author.Tests.{ltb-true, ltb-false, eqb-true, eqb-false}
-use Rattle.arm.specs.declared.Access.{Access}
 use Rattle.arm.specs.declared.Instr.{Instr}
 use Rattle.arm.specs.Instr.{Carried}
-use Rattle.arm.specs.Decode.{carried}
-use Rattle.arm.proofs.RoundTrip.{true_carried}
-use Rattle.block.specs.declared.Width.{Width}
-use Rattle.block.specs.declared.Width.TheVariants.{Byte as B8, Half as B16, Word as B32}
 use Rattle.block.specs.declared.Layout.{Layout}
-use Rattle.block.specs.declared.Block.{Block}
-use Rattle.block.specs.Block.{bytes}
-use Rattle.code.specs.Items.{pick, Sound, Fit, b, b_cond, cb, tb}
-use Rattle.code.specs.Tree.{Depth, Var, Code, Fine}
+use Rattle.code.specs.Items.{pick, Sound}
 use Rattle.lowering.specs.declared.RegCache.{RegCache}
-use Rattle.lowering.specs.Instrs.{CPU, mov, mov_x, mov32, add_i, sub_i, add, sub, cmp, ldr, str, indexed}
+use Rattle.lowering.specs.Instrs.{CPU, mov, mov32, add_i, add, ldr, str}
 use Rattle.lowering.specs.Cache.{POOL, host, FREE, empty_cache, off_reg, position, oldest, is_held, chosen, spill, slot_for, seated, stored, ld_reg, st_reg, flush_from, flush, reload_from, reload}
-use Rattle.lowering.specs.Fragments.{minus, add_imm, even}
-use Rattle.bounds.specs.Sound.{Host, Number, Count}
+use Rattle.lowering.specs.Fragments.{minus, add_imm}
+use Rattle.bounds.specs.Sound.{Host, Number}
 
 -- ---- lists
 pub sound-append : (xs ys : List Instr) → Sound xs → Sound ys → Sound (xs ++ ys)

@@ -22,7 +22,7 @@ use Rattle.lowering.specs.Instrs.{CPU, CTX, RAM, XIP, DONE, LIMIT, FLAGS, mov, m
 use Rattle.lowering.specs.Instrs.{add_xLsl, br, blr, indexed, lsr_i}
 use Rattle.lowering.specs.Cache.{flush}
 use Rattle.lowering.specs.Steps.{Field, sp, rets, Step}
-use Rattle.lowering.specs.Fragments.{field_at, add_imm, brk_first, even, loads, try_region, extended, align_test, map_test, stores, call, exit_imm}
+use Rattle.lowering.specs.Fragments.{field_at, brk_first, even, loads, try_region, extended, align_test, map_test, stores, call, exit_imm}
 use Rattle.lowering.specs.Fragments.{chain, ind, hold, check_brk, fork, limit, guard, load, store, step_code, step_cache, steps_code}
 use Rattle.lowering.specs.Fragments.{OFF_VER, opening, closing}
 use Rattle.bounds.specs.Sound.{Number, Count, StepFits, AllFit}

@@ -1,15 +1,15 @@
 -- What holds of the code of a block, so that the assembler's tables hold it, every word carries its instruction, and every jump
 -- reaches its label.
-use Rattle.std.specs.Prelude.{◌≡◌, List, [], ◌∷◌, ◌++◌, map, ℕ, ◌+◌, ◌*◌, ◌^◌, ◌<◌, ◌≤◌, length, take}
+use Rattle.std.specs.Prelude.{◌≡◌, List, [], ◌++◌, map, ℕ, ◌+◌, ◌*◌, ◌^◌, ◌<◌, ◌≤◌, length, take}
 use Rattle.arm.specs.declared.Instr.{Instr}
 use Rattle.arm.specs.Instr.{encode}
 use Rattle.arm.specs.Decode.{decode, valid}
 use Rattle.block.specs.declared.Block.{Block}
 use Rattle.code.specs.Items.{Item, Sound, Once, Met, Reach, Rise, places_of, resolve, pad_of, pool_of, halves, size}
-use Rattle.code.specs.Tree.{top, Code, nowhere, words, labels, jumps, whole_items, whole_lines, pool_in, Tests, Fine}
+use Rattle.code.specs.Tree.{nowhere, words, labels, jumps, whole_items, pool_in, Tests, Fine}
 use Rattle.lowering.specs.Fragments.{closing}
 use Rattle.lowering.specs.Steps.{block_steps}
-use Rattle.lowering.specs.Compile.{block_code, block_lines, block_words, starts, targets}
+use Rattle.lowering.specs.Compile.{block_code, block_lines, starts, targets}
 
 -- the tables: how many words, labels, fix-ups and literals a block has at most
 pub record Tables (blk : Block) : Type 0 where

@@ -18,7 +18,7 @@ use Rattle.block.specs.Checked.{Checked}
 use Rattle.demand.specs.Premises.{first, AtFirst, Held, PlacesIn, Elsewhere, Guarded, ram_guards, AllFit, Premises}
 use Rattle.example.proofs.Common.{checked_at, Each, each, Placed, Small, apart_of, elsewhere_of}
 use Rattle.example.proofs.GuardStart.{ops, addresses, guard_at, block, helpers, listing, listing_is, ours, outside, flash, card}
-use Rattle.example.proofs.GuardStart.{context, ram_guard, table, memory, registers, start}
+use Rattle.example.proofs.GuardStart.{context, ram_guard, memory, registers, start}
 
 pub checked : Checked block
 checked =

@@ -97,7 +97,7 @@ module _ {b : Block} {h : Helpers} {s0 : State} (B : Body b h s0) (C : Checked b
   entry_frag = frag-one (add_xLsl 11 11 10 4) (λ s. bare (with_x 11 ((R X s 11 + R X s 10 * 2 ^ 4) % 2 ^ 64) s)) (λ s w. ap of_effect (exec-add_lsl h s X 10 4 11 11))
       (λ s w. (
         bound_at (bound-x w.0 11 ((R X s 11 + R X s 10 * 2 ^ 4) % 2 ^ 64) refl (omega arith)),
-        R_same X 11 ((R X s 11 + R X s 10 * 2 ^ 4) % 2 ^ 64) s (reg_lt w.0 11 (omega arith)) ∙ rw (w.1, w.2) (omega (arith, entry_lt B p, B.table_at)),
+        R_same X 11 ((R X s 11 + R X s 10 * 2 ^ 4) % 2 ^ 64) s (reg_lt w.0 11 (omega arith)) ∙ rw (w.1, w.2) (omega (arith, entry_lt B p, B.table-at)),
       ))
 
   -- a load from the entry

@@ -20,7 +20,7 @@ use Rattle.block.specs.Block.{uses_bus}
 use Rattle.block.specs.Checked.{FastFits, BOpFits}
 use Rattle.card.specs.Card.{Card, set_hold, arrive}
 use Rattle.card.specs.Step.{exits, After, on, out, starved, op_step}
-use Rattle.card.specs.Run.{check_brk, checked}
+use Rattle.card.specs.Run.{checked}
 use Rattle.code.specs.Items.{pick}
 use Rattle.lowering.specs.Steps.{Step, lowered, op_steps}
 use Rattle.relation.specs.Relation.{Small}

@@ -1,13 +1,13 @@
 -- The kinds without memory: their steps on the machine between do what the card's step does.
-use mathlib.Core.Path.{◌≡◌, refl, sym, ap, ap₂, ◌∙◌}
-use mathlib.Core.Bool.{Bool, true, false, cond, not, ◌&&◌}
-use mathlib.Core.Option.{Option, none, some}
-use mathlib.Core.List.{List, [], ◌∷◌, ◌++◌}
-use Prim.Native.Nat.{ℕ, ◌+◌, ◌-◌, ◌*◌, ◌/◌, ◌%◌, ◌^◌, ◌<◌, ◌≤◌}
+use mathlib.Core.Path.{◌≡◌, refl, ap, ap₂, ◌∙◌}
+use mathlib.Core.Bool.{Bool, true, false, cond}
+use mathlib.Core.Option.{some}
+use mathlib.Core.List.{List}
+use Prim.Native.Nat.{ℕ, ◌+◌, ◌-◌, ◌*◌, ◌%◌, ◌^◌, ◌<◌, ◌≤◌}
 use native.Mathlib.Omega.{arith}
-use native.Mathlib.Nat.{mod-eq_of_lt, mod-lt}
+use native.Mathlib.Nat.{mod-lt}
 use lib.Bits.{bit_and, bit_or, and_lt}
-use lib.Dec.{eqb, ltb}
+use lib.Dec.{eqb}
 use lib.IntN.{pos, ◌-ℤ◌}
 use mathlib.Core.Logic.{◌≢◌}
 use borrow.Author.Tests.{eqb-false}
@@ -20,7 +20,7 @@ use Rattle.arm.specs.declared.Three.TheVariants.{Msub}
 use Rattle.block.specs.declared.Op.{Op}
 use Rattle.block.specs.declared.Op.TheVariants.{Add, Sub as SubOp, RSub, And, AndNot, Or, Xor, Mul, Shl, Shr, Sar}
 use Rattle.block.specs.declared.Cond.{Cond}
-use Rattle.block.specs.declared.Cond.TheVariants.{LtU, GtU, LtS, GtS, GeS}
+use Rattle.block.specs.declared.Cond.TheVariants.{LtU, GtU, LtS, GtS}
 use Rattle.block.specs.declared.Rk.{Rk}
 use Rattle.block.specs.declared.Rk.TheVariants.{Reg as RkReg, Imm as RkImm, Bit as RkBit}
 use Rattle.block.specs.declared.Part.{Part}
@@ -33,23 +33,22 @@ use Rattle.block.specs.declared.DivKind.{DivKind}
 use Rattle.block.specs.declared.DivKind.TheVariants.{QuoS, QuoU, RemS, RemU}
 use Rattle.block.specs.declared.Fast.{Fast}
 use Rattle.block.specs.declared.Fast.TheVariants.{Nop, MovI, Mov, AddRI, ShlI, SarI, Alu3, Alu3I, Alu2, Alu2I, A4, Ext, MinMax, Un, Div, Mov2, Mov2I, BitExt, BitIns, SpAdd, RFromSp}
-use Rattle.block.specs.declared.BOp.{BOp}
 use Rattle.block.specs.declared.Block.{Block}
-use Rattle.machine.specs.Bits.{Nzcv, ConditionHolds, NOT}
+use Rattle.machine.specs.Bits.{Nzcv, ConditionHolds}
 use Rattle.machine.specs.Execute.{add_sub, shifted, two, three, extracted}
 use Rattle.machine.proofs.Flags.{compared}
-use Rattle.card.specs.Word.{plus, minus, complement, shl, shr, alu, ext, min_max, un, div, bit_ext, bit_ins, holds, choose, at_most, at_least, remainder, quot_s, quot_u, bits_of, field, mask}
-use Rattle.card.specs.Card.{Card, reg, set_reg, rhs}
-use Rattle.card.specs.Step.{After, on, out, starved, op_step}
-use Rattle.lowering.specs.Steps.{Step, lowered}
+use Rattle.card.specs.Word.{minus, complement, shl, shr, alu, holds, choose, at_most, at_least, remainder, quot_s, quot_u, bits_of, mask}
+use Rattle.card.specs.Card.{reg, set_reg}
+use Rattle.card.specs.Step.{op_step}
+use Rattle.lowering.specs.Steps.{lowered}
 use Rattle.lowering.specs.Steps.{acond}
-use Rattle.lowering.specs.Steps.{alu as alu_ins, rhs as rhs_steps}
+use Rattle.lowering.specs.Steps.{alu as alu_ins}
 use Rattle.relation.specs.Relation.{Small}
-use Rattle.relation.specs.Abs.{Abs, Then, go, off, void, upd, seen, mstep, mrun, mdata, mins, and_then}
+use Rattle.relation.specs.Abs.{Abs, go, upd, seen, mstep, mrun, mdata, mins}
 use Rattle.relation.specs.Data.{data_of}
 use Rattle.kinds.specs.Agrees.{Agrees}
 use Rattle.kinds.proofs.Values.{second_is, add-value, sub-value, and_value, bic-value, or_value, xor_value, mul-value, shl-value, shr-value, sar-value, lsl-value, asr_value, lsr_value, ubfx-value, sbfx-value, mvn-value, negated, rev-value, clz-value, quot_s-value, quot_u-value, rem_value, bits_lt, sign-is, shr-small, ones-mask, mask_lt, hole_is}
-use Rattle.kinds.proofs.Conditions.{test, chosen, cond_means, unless-zero, select_most, select_least, cond_lt, below-zero}
+use Rattle.kinds.proofs.Conditions.{test, chosen, unless-zero, select_most, select_least, cond_lt, below-zero}
 
 -- the machine between with w0 set
 abbrev pub with0 : ℕ → Abs → Abs

@@ -1,8 +1,8 @@
 -- What the lowering's instructions compute is the card's arithmetic.
 --     add-value .. sar-value     the eleven operations of `alu`
 -- Assumes nothing.
-use mathlib.Core.Path.{◌≡◌, refl, sym, ap, ap₂, subst, ◌∙◌}
-use mathlib.Core.Bool.{Bool, true, false, cond, not}
+use mathlib.Core.Path.{◌≡◌, refl, sym, ap, subst, ◌∙◌}
+use mathlib.Core.Bool.{Bool, true, false, cond}
 use Prim.Native.Nat.{ℕ, zero, suc, ◌+◌, ◌-◌, ◌*◌, ◌/◌, ◌%◌, ◌^◌, ◌<◌, ◌≤◌}
 use native.Mathlib.Nat.{mod-eq_of_lt, mod-lt, mod-mod, lt_of_le_of_lt, lt_of_lt_of_le, div-le_self, pow-le-pow_right}
 use borrow.Author.Tests.{le-leb, lt-leb, ltb-true, ltb-false}

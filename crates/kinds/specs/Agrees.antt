@@ -1,10 +1,7 @@
 -- A kind's steps on the machine between, and the card's own step of it: they agree.
-use Rattle.std.specs.Prelude.{◌≡◌, refl, Bool, true, false, List, [], ◌∷◌, ℕ}
-use Rattle.block.specs.declared.BOp.{BOp}
-use Rattle.block.specs.declared.Block.{Block}
-use Rattle.card.specs.Card.{Card}
-use Rattle.card.specs.Step.{Way, After, on, out, starved}
-use Rattle.relation.specs.Abs.{Abs, Then, go, off, void}
+use Rattle.std.specs.Prelude.{◌≡◌}
+use Rattle.card.specs.Step.{After, on, out, starved}
+use Rattle.relation.specs.Abs.{Then, go, off, void}
 
 -- what the machine between ends in where the card's operation ends so; a request that finds no outcome asks nothing
 abbrev pub Agrees : After → Then → Type 0

@@ -9,7 +9,7 @@ use Rattle.machine.specs.State.{Region, Request, Outcome, State}
 use Rattle.machine.specs.Memory.{read_le, write_le, within, locate, load, store}
 use Rattle.machine.specs.Execute.{Helpers, execute}
 use Rattle.machine.specs.Encoders.{encoders, has_encoder}
-use Rattle.machine.specs.Machine.{Status, running, at_return, at_jump, fault, Run, fetch, instruction, step}
+use Rattle.machine.specs.Machine.{running, at_return, at_jump, fault, Run, fetch, instruction, step}
 
 -- f k, f (k + 1), .., n numbers
 abbrev pub counting : (ℕ → ℕ) → (k n : ℕ) → List ℕ

@@ -2,17 +2,17 @@
 --     lines-known     the instructions of lines have encoders
 --     lines-near      their distances and literals fit
 -- Assumes nothing.
-use mathlib.Core.Path.{◌≡◌, refl, sym, ap, subst, ◌∙◌}
-use mathlib.Core.Bool.{Bool, true, false}
+use mathlib.Core.Path.{◌≡◌, refl, sym, ap, subst}
+use mathlib.Core.Bool.{true}
 use mathlib.Core.List.{List, [], ◌∷◌, ◌++◌, map}
 use Prim.Native.Nat.{ℕ, zero, suc, ◌+◌, ◌-◌, ◌*◌, ◌%◌, ◌^◌, ◌<◌, ◌≤◌}
 use native.Mathlib.Omega.{arith}
 use borrow.Author.Tests.{lt-ltb, eq-eqb}
 use lib.Dec.{T}
-use lib.IntN.{ℤ, pos, negsuc}
+use lib.IntN.{pos}
 use lib.ListN.{length, drop}
 use Rattle.arm.specs.declared.Instr.{Instr}
-use Rattle.code.specs.Items.{Hole, b, b_cond, cb, tb, adr, ldr, twos, bytes, fill, reach_of, dist}
+use Rattle.code.specs.Items.{Hole, b, b_cond, cb, tb, adr, ldr, fill, reach_of, dist}
 use Rattle.code.specs.Tree.{Depth, Var, Code, code, lit, to, exit, block, start, ◌then◌, words, Line, plain, over, back, load, minus, inside, lines, Near}
 use Rattle.code.proofs.Tree.{lines-length}
 use Rattle.code.proofs.Fetch.{instr}

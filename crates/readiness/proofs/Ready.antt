@@ -1,15 +1,14 @@
 -- The words of a checked block can be fetched and decoded: what `execution` asks of lines.
-use mathlib.Core.Path.{◌≡◌, refl, sym, ap, subst, ◌∙◌}
+use mathlib.Core.Path.{◌≡◌, subst}
 use mathlib.Core.Bool.{true}
-use mathlib.Core.List.{List, [], ◌∷◌, ◌++◌, map}
-use Prim.Native.Nat.{ℕ, suc, ◌+◌, ◌*◌, ◌^◌, ◌<◌, ◌≤◌}
+use mathlib.Core.List.{List, [], ◌∷◌, map}
+use Prim.Native.Nat.{ℕ, ◌+◌, ◌*◌, ◌^◌, ◌<◌, ◌≤◌}
 use native.Mathlib.Omega.{arith}
-use lib.ListN.{length, drop, length-append, length-map}
-use Rattle.arm.specs.declared.Instr.{Instr}
+use lib.ListN.{length, drop, length-append}
 use Rattle.block.specs.declared.Block.{Block}
 use Rattle.block.specs.Checked.{Checked}
 use Rattle.code.specs.Items.{Sound}
-use Rattle.code.specs.Tree.{top, Var, Code, words, Line, plain, over, back, load, lines, nowhere, Near, Tests, instrs, find_in, pool_in, whole_lines, lines_words}
+use Rattle.code.specs.Tree.{top, Var, words, Line, plain, over, back, load, lines, nowhere, Near, Tests, instrs, find_in, whole_lines, lines_words}
 use Rattle.code.proofs.Tree.{lines-length}
 use Rattle.code.proofs.Reach.{near_all}
 use Rattle.code.proofs.Fetch.{instr, loaded}

@@ -8,8 +8,6 @@ use Prim.Native.Nat.{ℕ, ◌+◌}
 use Rattle.arm.specs.declared.Instr.{Instr}
 use Rattle.code.specs.Tree.{Depth, under, Code, code, lit, block, ◌then◌, words}
 use Rattle.code.specs.Machine.{Machine, Eff, fall, stop, fell, and_then, caught, go_on, of_eff, straight, does}
-use Rattle.machine.specs.State.{State}
-use Rattle.relation.specs.Lines.{Stop, exec}
 use Rattle.relation.specs.Relation.{Frag}
 
 -- what a list of instructions does, one list after another

@@ -1,19 +1,16 @@
 -- Instructions on 32-bit registers and flags alone, as functions of the registers that they read. A proof's device: the values are the machine's own.
-use Rattle.std.specs.Prelude.{Bool, true, false, cond, ◌&&◌, List, [], ◌∷◌, ℕ, ◌*◌, eqb}
+use Rattle.std.specs.Prelude.{Bool, true, false, cond, List, [], ◌∷◌, ℕ, ◌*◌}
 use Rattle.std.proofs.Math.Option.{Option, none, some}
-use Rattle.arm.specs.declared.Size.{Size}
 use Rattle.arm.specs.declared.Size.TheVariants.{W, X}
 use Rattle.arm.specs.declared.Flags.{Flags}
 use Rattle.arm.specs.declared.Flags.TheVariants.{Keeps, Sets}
-use Rattle.arm.specs.declared.Logic.{Logic}
-use Rattle.arm.specs.declared.Logic.TheVariants.{And, Orr, Eor, Ands}
 use Rattle.arm.specs.declared.Move.{Move}
 use Rattle.arm.specs.declared.Move.TheVariants.{Movn, Movz, Movk}
 use Rattle.arm.specs.declared.Extract.TheVariants.{Sbfm, Bfm, Ubfm}
 use Rattle.arm.specs.declared.Three.TheVariants.{Madd, Msub, Smaddl, Umaddl}
 use Rattle.arm.specs.declared.Instr.{Instr}
 use Rattle.arm.specs.declared.Instr.TheVariants.{MoveWide, AddSubImm, AddSubShifted, LogicalShifted, LogicalImm, Bitfield, OneSource, TwoSource, ThreeSource, CondSelect, MemoryImm, MemoryReg, MemoryPair, CompareBranch, TestBranch, CondBranch, Branch, BranchReg, Adr, LoadLiteral, Nop, FloatTwo, FloatCompare, FloatConvert}
-use Rattle.machine.specs.Bits.{Nzcv, Sum, ConditionHolds}
+use Rattle.machine.specs.Bits.{Nzcv, ConditionHolds}
 use Rattle.machine.specs.Execute.{moved, add_sub, shifted, second, logic, logic_flags, test_flags, extracted, one, two, three, otherwise}
 
 -- what it writes to the register rd, what flags it leaves, and what it reads

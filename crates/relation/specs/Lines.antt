@@ -1,10 +1,9 @@
 -- The A64 machine as what runs lines and structured code (crate code, Machine): it needs no program counter and keeps no count there.
-use Rattle.std.specs.Prelude.{Bool, true, false, cond, not, ◌||◌, List, ℕ, ◌+◌, ◌*◌, ◌%◌, ◌^◌, eqb}
-use Rattle.arm.specs.declared.Size.TheVariants.{W, X}
+use Rattle.std.specs.Prelude.{Bool, true, false, cond, not, ◌||◌, ℕ, ◌+◌, ◌*◌, ◌%◌, ◌^◌, eqb}
+use Rattle.arm.specs.declared.Size.TheVariants.{X}
 use Rattle.arm.specs.declared.Jump.{Jump}
 use Rattle.arm.specs.declared.Jump.TheVariants.{Br, Blr, Ret}
 use Rattle.arm.specs.declared.Instr.{Instr}
-use Rattle.arm.specs.declared.Instr.TheVariants.{BranchReg}
 use Rattle.code.specs.Items.{Hole, b, b_cond, cb, tb, adr, ldr}
 use Rattle.code.specs.Machine.{Eff, fall, stop, Machine}
 use Rattle.machine.specs.Bits.{bit, IsZero, ConditionHolds}

@@ -22,7 +22,7 @@ use Rattle.card.specs.Memory.{load as load_card, store as store_card}
 use Rattle.card.specs.Step.{Way, exits, chains, looks_up}
 use Rattle.lowering.specs.declared.RegCache.{RegCache}
 use Rattle.lowering.specs.Steps.{Step}
-use Rattle.lowering.specs.Fragments.{try_region, align_test, map_test, call, exit_imm, chain, ind, check_brk, fork, limit, guard, load, store}
+use Rattle.lowering.specs.Fragments.{try_region, align_test, map_test, call, exit_imm, chain, check_brk, fork, limit, guard, load, store}
 use Rattle.lowering.specs.Fragments.{step_code}
 use Rattle.lowering.specs.Compile.{starts, targets}
 use Rattle.relation.specs.Data.{Data, data_of}

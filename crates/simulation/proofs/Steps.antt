@@ -19,7 +19,7 @@ use Rattle.card.specs.Card.{Card}
 use Rattle.card.specs.Step.{Way, exits, chains, looks_up}
 use Rattle.lowering.specs.declared.RegCache.{RegCache}
 use Rattle.lowering.specs.Steps.{Step}
-use Rattle.lowering.specs.Fragments.{chain, ind, check_brk, fork, limit, load, store, step_code, step_cache, steps_code}
+use Rattle.lowering.specs.Fragments.{step_code, step_cache, steps_code}
 use Rattle.lowering.specs.Compile.{starts, targets}
 use Rattle.relation.specs.Lines.{Stop, arm}
 use Rattle.relation.specs.Abs.{Abs, Then, go, off, void, mstep, mrun}
