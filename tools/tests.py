@@ -76,7 +76,7 @@ def kinds():
     """The table of kinds: the operands' classes are those of the table that reading is proved of, their names a checked block's."""
     table = (TOP / "crates/operands/specs/Kinds.antt").read_text()
     rows = re.findall(r"(?:∷ |\n    )kind (\[\]|\(.*? ∷ \[\]\))\s*\(λ x\. (\w+)", table[table.index("pub kinds :") :])
-    same = {"any": "any32", "off": "any32", "sel": "byte", "pre": "byte", "bit": "flag", "op": "aluOp", "rmw": "rmwOp"}
+    same = {"any": "any32", "off": "any32", "sel": "byte", "pre": "byte", "bit": "flag", "op": "alu_op", "rmw": "rmw_op"}
     assert len(rows) == len(KINDS)
     for (classes, name), (own, operands) in zip(rows, KINDS.values()):
         assert (name, re.findall(r"\w+", classes)) == (own, [same.get(of, of) for _, of in operands]), name
