@@ -1,6 +1,6 @@
 #!/usr/bin/env bash
-# The static library for x86-64 Linux, target/staticlib/libwerfund.a, by one command: host/build.sh. From a clean clone it proves what the library
-# stands on first. Its code runs on every x86-64 processor. Needs rt alone.
+# The static library for x86-64 Linux, target/staticlib/libwerfund.a, by one command: host/build.sh. From a clean clone it proves what the
+# library stands on first. Its code runs on every x86-64 processor. Needs rt alone.
 set -euo pipefail
 cd "$(dirname "$0")/.."
 out=target/staticlib

@@ -24,7 +24,7 @@ import parts
 from distances import at_distance, code_end, row
 from record import FIELDS, KINDS, OPERATIONS, TOP, Block, fault, op_field
 
-BLOCKWORDS = str(TOP / "target/bin/blockwords")
+BLOCKWORDS = str(TOP / "crates/blockwords/out/blockwords")
 EXAMPLES, PICTURE = TOP / "examples", "break_check"
 LENGTH = 4096  # of the longest record that blockwords reads
 DRAWN = ("blocks.py 2101 1500 --kinds 49 --guards --damaged 100", "blocks.py 2102 700 --request 2026-06 --damaged 100")
@@ -378,7 +378,7 @@ def missing():
         alone = run([TOP / "tools/explain", record], env={"PATH": folder})
     assert alone.returncode == 1 and all(f"{p} (package {of})" in alone.stderr for p, of in disassembly.PROGRAMS.items()), alone.stderr
     nowhere = run([TOP / "tools/explain", "--blockwords", "nowhere", record])
-    assert nowhere.returncode == 1 and "rt check blockwords" in nowhere.stderr
+    assert nowhere.returncode == 1 and "`rt run` in crates/blockwords" in nowhere.stderr
     long = run([TOP / "tools/explain", "-"], input="5" * (LENGTH + 1))
     assert long.returncode == 1 and "4,096" in long.stderr, long
     other = [(["--blockwords", p], "does not answer as blockwords does") for p in ("/bin/true", "/bin/false", "/bin/cat", "/bin/echo")]

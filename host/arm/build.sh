@@ -1,6 +1,7 @@
 #!/usr/bin/env bash
-# The static library for AArch64 Linux, target/staticlib-aarch64/libwerfund.a, by one command: host/arm/build.sh. From a clean clone it proves what
-# the library stands on first. Needs rt alone. The x86-64 archive, target/staticlib/libwerfund.a, is not touched.
+# The static library for AArch64 Linux, target/staticlib-aarch64/libwerfund.a, by one command: host/arm/build.sh. From a clean clone it
+# proves what the library stands on first. Its code runs on every Armv8-A processor. Needs rt alone. The x86-64 archive,
+# target/staticlib/libwerfund.a, is not touched.
 set -euo pipefail
 cd "$(dirname "$0")/../.."
 out=target/staticlib-aarch64
