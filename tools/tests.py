@@ -364,7 +364,7 @@ def readme():
     """The lines of README.md that show the way run as they stand: a block is written, made, translated, explained, shown."""
     section = (TOP / "README.md").read_text().split("## A block by hand\n")[1].split("\n## ")[0]
     lines = re.findall(r"^    (.*?)(?: +#.*)?$", section, re.M)
-    _, _, listing, explained, shown = [output("bash", "-euc", line) for line in lines]
+    _, _, _, listing, explained, shown = [output("bash", "-euc", line) for line in lines]
     assert listing.startswith("words ") and explained.startswith("accepted: ") and shown.startswith("layout "), lines
     print(f"{len(lines)} lines")
 
