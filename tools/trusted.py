@@ -15,7 +15,7 @@ DOCUMENT = TOP / "docs/TRUSTED.md"
 LIST = "## The list\n"
 
 # The files whose public functions are the entries, and the files of statements that a reader asks for.
-ENTRIES = ("translation/src/lib.rt", "compile/src/lib.rt", "record/src/lib.rt", "werfund/src/lib.rt",
+ENTRIES = ("translation/src/lib.rt", "compile/src/lib.rt", "record/src/lib.rt", "werfund/src/lib.rt", "werfund_c/src/lib.rt",
            "a64/src/", "floats/src/", "constants/src/", "chain/src/lib.rt", "blockwords/src/main.rt")
 CLAIMS = (
     "/specs/Claims.antt",
