@@ -9,7 +9,8 @@ import re
 from pathlib import Path
 
 TOP = Path(__file__).resolve().parent.parent
-USE = re.compile(r"\s*(?:unfoldable )?(?:pub )?(?:ghost )?use ([^\s{;]+?)(?:(?:\.|::)\{([^{}]*)\}| as (\S+?))?;?$")
+USE = re.compile(r"\s*(?:(?:unfoldable|pub|ghost) )*use (?=\S)")
+USED = re.compile(r"([^\s{;]+?)(?:(?:\.|::)\{(.*)\}| as (\S+?))?;?")
 HEAD = re.compile(r"(?:abbrev |unfoldable )?(?:pub )?(record |data |ruleset )?([^\s:]+)(?: [^:=]*)? (:|=)(?: |$)")
 ALONE = re.compile(r"(?:abbrev |unfoldable )?pub ([^\s:(){}]+)$")  # its signature stands on the next line
 ITEM = re.compile(r"(?:pub )?(?:extern \"C\" )?(enum|struct|const|type|fn) (\w+)")
@@ -21,6 +22,14 @@ def tokens(text):
     """The names of a text, and the parts of a path `a.b`."""
     found = set(re.findall(r"[^\s(){}\[\],;@]+", text))
     return found | {p for t in found for p in t.split(".") if p}
+
+
+def listed(group):
+    """The names of a `use` line's group; of a group within it the paths."""
+    if inner := re.search(r"([\w:]+::)\{([^{}]*)\}", group):
+        paths = ", ".join(inner[1] + n.strip() for n in inner[2].split(",") if n.strip())
+        return listed(group[: inner.start()] + paths + group[inner.end() :])
+    return [n.strip() for n in group.split(",") if n.strip()]
 
 
 class Definition:
@@ -49,12 +58,12 @@ class File:
         rest = []
         lines = iter(enumerate(self.lines, 1))
         for i, s in lines:
-            if re.match(r"\s*(\w+ )*use [^:=]*(::[^:=]*)*$", s):
-                while "{" in s and "}" not in s:
+            if use := USE.match(s):
+                while s.count("{") > s.count("}"):
                     s += next(lines)[1].strip()
-                if not (use := USE.match(s)):
+                if not (used := USED.fullmatch(s[use.end() :])):
                     raise SystemExit(f"crates/{self.place}:{i}: a `use` that tools/antt.py does not read")
-                self.take(*use.groups(), "ghost use" in s)
+                self.take(*used.groups(), "ghost use" in s)
             elif s and not re.match(r"\s*(pub )?mod ", s):
                 rest.append((i, len(s) - len(s.lstrip()), s))
                 self.names |= tokens(s)
@@ -65,12 +74,11 @@ class File:
         code = self.is_code and not ghost
         if names is None and not code:
             self.modules[other or module.split(".")[-1]] = module
-        for n in (names or "").split(","):
-            if n.strip():
-                source, *renamed = map(str.strip, n.split(" as "))
-                name, means = (renamed or [source])[0], (f"{module}::{source}", "") if code else (module, source)
-                self.imports.setdefault(name, means) if code else self.imports.update({name: means})
-                self.ghosts |= {name} if ghost else set()
+        for n in listed(names or ""):
+            source, *renamed = map(str.strip, n.split(" as "))
+            name, means = (renamed or [source])[0], (f"{module}::{source}", "") if code else (module, source)
+            self.imports.setdefault(name.split("::")[-1], means) if code else self.imports.update({name: means})
+            self.ghosts |= {name} if ghost else set()
         if code and names is None and "::" in module:
             self.imports.setdefault(other or module.split("::")[-1], (module, ""))
 
