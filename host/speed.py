@@ -203,7 +203,7 @@ def main():
         sys.exit(__doc__)
     directory, oracle = (os.path.abspath(a) for a in sys.argv[1:])
     os.makedirs(os.path.dirname(SPEED), exist_ok=True)
-    run(["rt", "staticlib", "werfund"])
+    run(["host/build.sh"])
     run(["gcc", "-std=c99", "-O2", "-Wl,-z,now", "host/speed.c", LIBRARY, "-o", SPEED])
 
     def rust(lines, function="main::jit::compile"):

@@ -1,7 +1,7 @@
 #!/usr/bin/env bash
-# The host's side, built and tested by one command, host/test.sh: the static library, then in C and in Rust every case of crates/blockcases/stdin,
-# the checks of the boundary and the worked example; then the same under valgrind. A line says what was compared, and the last line how many of
-# these passed. Needs rt, gcc with g++, cargo and valgrind, and no network. What it makes is in target/.
+# The host's side, built and tested by one command, host/test.sh: the static library (host/build.sh), then in C and in Rust every case of
+# crates/blockcases/stdin, the checks of the boundary and the worked example; then the same under valgrind. A line says what was compared, and
+# the last line how many of these passed. Needs rt, gcc with g++, cargo and valgrind, and no network. What it makes is in target/.
 set -uo pipefail
 cd "$(dirname "$0")/.." || exit
 out=target/host
@@ -15,7 +15,7 @@ library=target/staticlib/libwerfund.a
 
 # shellcheck disable=SC2086
 {
-    run "static library" last rt staticlib werfund
+    run "static library" last host/build.sh
     run "header as C++" g++ -std=c++11 -Wall -Wextra -Wpedantic -Werror -fsyntax-only -x c++ host/werfund.h
     run "C tests built" $c host/tests/tests.c "$library" -o "$out/tests"
     run "C example built" $c host/examples/example.c "$library" -o "$out/example"

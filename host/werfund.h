@@ -1,6 +1,6 @@
 /* The translator of block records to A64 code, for a host in C (C99) or C++ on x86-64 or AArch64 Linux.
  *
- * `rt staticlib werfund` writes target/staticlib/libwerfund.a, and host/arm/build.sh target/staticlib-aarch64/libwerfund.a; link the one of your
+ * host/build.sh writes target/staticlib/libwerfund.a, and host/arm/build.sh target/staticlib-aarch64/libwerfund.a; link the one of your
  * processor, and nothing else beside the C library. What each function answers is proved in crates/werfund, for every record and every length.
  * What a contract cannot say of C is in this file: pointers.
  *

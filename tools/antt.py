@@ -2,16 +2,20 @@
 
 A definition of specs/ or proofs/ is a name with its signature and equations; of a type also its fields or constructors; the parameters of
 the section (`module _ ..`) that it stands in count as its own. Of src/ a type or constant is a definition, and so is a function's signature
-with its contract. Names are followed through `use` lines to the file that defines them; what the kit defines ends the way there.
+with its contract, a method's too. Names are followed through `use` lines to the file that defines them; what the kit defines ends the way
+there. In a contract a name that `ghost use` brings means that definition, also where a function or a type of the file has the same name.
 """
 import re
 from pathlib import Path
 
 TOP = Path(__file__).resolve().parent.parent
-USE = re.compile(r"\s*(?:unfoldable )?(?:pub )?(?:ghost )?use ([^\s{;]+?)(?:\.\{([^}]*)\}| as \S+?)?;?$")
+USE = re.compile(r"\s*(?:(?:unfoldable|pub|ghost) )*use (?=\S)")
+USED = re.compile(r"([^\s{;]+?)(?:(?:\.|::)\{(.*)\}| as (\S+?))?;?")
 HEAD = re.compile(r"(?:abbrev |unfoldable )?(?:pub )?(record |data |ruleset )?([^\s:]+)(?: [^:=]*)? (:|=)(?: |$)")
+ALONE = re.compile(r"(?:abbrev |unfoldable )?pub ([^\s:(){}]+)$")  # its signature stands on the next line
 ITEM = re.compile(r"(?:pub )?(?:extern \"C\" )?(enum|struct|const|type|fn) (\w+)")
-MODULE = re.compile(r"Rattle·(\w+?)(?:·(?:specs|proofs))?\.(specs|proofs)\.(\S+)")
+CLAUSE = re.compile(r"\s*(requires|ensures)\b")
+MODULE = re.compile(r"Rattle\.(\w+)\.(specs|proofs)\.(\S+)")
 
 
 def tokens(text):
@@ -20,57 +24,78 @@ def tokens(text):
     return found | {p for t in found for p in t.split(".") if p}
 
 
+def listed(group):
+    """The names of a `use` line's group; of a group within it the paths."""
+    if inner := re.search(r"([\w:]+::)\{([^{}]*)\}", group):
+        paths = ", ".join(inner[1] + n.strip() for n in inner[2].split(",") if n.strip())
+        return listed(group[: inner.start()] + paths + group[inner.end() :])
+    return [n.strip() for n in group.split(",") if n.strip()]
+
+
 class Definition:
-    """A name of a file: its first line (from 1 on), its lines without comments, and the names in them."""
+    """A name of a file: its first line (from 1 on), its lines without comments, and the names in them; of src/ those in clauses apart."""
 
     def __init__(self, file, name, line):
-        self.file, self.name, self.line, self.lines, self.names = file, name, line, [], set()
+        self.file, self.name, self.line, self.lines, self.names, self.cited = file, name, line, [], set(), set()
 
-    def add(self, text):
+    def add(self, text, clause=False):
         self.lines.append(text)
-        self.names |= tokens(text)
+        if clause:
+            self.cited |= tokens(text)
+        else:
+            self.names |= tokens(text)
 
 
 class File:
     """A file's imports and definitions. `place` is its path below crates/; `parts` leads from a field or constructor to its type."""
 
     def __init__(self, path):
-        self.place, self.imports, self.definitions, self.parts, self.marks = str(path.relative_to(TOP / "crates")), {}, {}, {}, []
-        self.crate = self.place.split("/")[0]
-        comment = r"//.*" if path.suffix == ".rt" else r"(^|\s)--(\s.*)?$"
+        self.place, self.imports, self.ghosts, self.definitions = str(path.relative_to(TOP / "crates")), {}, set(), {}
+        self.parts, self.marks, self.names, self.modules = {}, [], set(), {}
+        self.crate, self.is_code = self.place.split("/")[0], path.suffix == ".rt"
+        comment = r"//.*" if self.is_code else r"(^|\s)--(\s.*)?$"
         self.lines = [re.sub(comment, "", line).rstrip() for line in path.read_text().split("\n")]
-        self.names = set()
         rest = []
-        for i, s in enumerate(self.lines, 1):
+        lines = iter(enumerate(self.lines, 1))
+        for i, s in lines:
             if use := USE.match(s):
-                self.take(*use.groups())
-            elif re.match(r"\s*(\w+ )*use [^:=]*$", s):
-                raise SystemExit(f"crates/{self.place}:{i}: a `use` that tools/antt.py does not read")
+                while s.count("{") > s.count("}"):
+                    s += next(lines)[1].strip()
+                if not (used := USED.fullmatch(s[use.end() :])):
+                    raise SystemExit(f"crates/{self.place}:{i}: a `use` that tools/antt.py does not read")
+                self.take(*used.groups(), "ghost use" in s)
             elif s and not re.match(r"\s*(pub )?mod ", s):
                 rest.append((i, len(s) - len(s.lstrip()), s))
                 self.names |= tokens(s)
-        (self.code if path.suffix == ".rt" else self.logic)(rest)
+        (self.code if self.is_code else self.logic)(rest)
 
-    def take(self, module, names):
-        """What a `use` line brings."""
-        for n in (names or "").split(","):
-            if n.strip():
-                source, *renamed = n.split(" as ")
-                self.imports[(renamed or [source])[0].strip()] = (module, source.strip())
-        if "::" in module:  # in a contract a name of both is the definition's
-            self.imports.setdefault(module.split("::")[-1], (module, ""))
+    def take(self, module, names, other, ghost):
+        """What a `use` line brings. Of code a path stands for the name; a name that a `ghost use` brings too is the definition's."""
+        code = self.is_code and not ghost
+        if names is None and not code:
+            self.modules[other or module.split(".")[-1]] = module
+        for n in listed(names or ""):
+            source, *renamed = map(str.strip, n.split(" as "))
+            name, means = (renamed or [source])[0], (f"{module}::{source}", "") if code else (module, source)
+            self.imports.setdefault(name.split("::")[-1], means) if code else self.imports.update({name: means})
+            self.ghosts |= {name} if ghost else set()
+        if code and names is None and "::" in module:
+            self.imports.setdefault(other or module.split("::")[-1], (module, ""))
 
     def code(self, lines):
         """The types, constants and contracts of a file of src/."""
-        now = None
+        now, clause = None, False
         for i, indent, s in lines:
-            if indent == 0 and (item := ITEM.match(s)):
-                now = self.definitions.setdefault(item[2], Definition(self, item[2], i))
+            item = ITEM.match(s) if indent == 0 else re.match(r"    pub (fn) (\w+)", s)
+            if item:
+                now, clause, base = self.definitions.setdefault(item[2], Definition(self, item[2], i)), False, indent
                 end = {"fn": "{", "enum": "}", "struct": ("}", ";")}.get(item[1], ";")
             if now:
-                now.add(s)
-                now.names |= set(re.findall(r"\w+(?:::\w+)*", s))
-                if s.endswith(end) and (indent == 0 or end in ("{", ";")):
+                clause = end == "{" and (clause or CLAUSE.match(s) is not None)
+                now.add(s, clause and s.strip() != "{")
+                if not clause:
+                    now.names |= set(re.findall(r"\w+(?:::\w+)*", s))
+                if s.endswith(end) and (indent == base or end in ("{", ";")):
                     now = None
 
     def logic(self, lines):
@@ -91,8 +116,9 @@ class File:
                 continue
             base = 2 + sections[-1][0] if sections else 0
             head = HEAD.match(text) if indent == base and not text.startswith("unfolding ") else None
-            if head and (head[1] or head[3] == ":"):
-                kind, name = head[1], head[2]
+            alone = ALONE.match(text) if indent == base and not head else None
+            if alone or head and (head[1] or head[3] == ":"):
+                kind, name = (None, alone[1]) if alone else (head[1], head[2])
                 now = self.definitions.setdefault(name, Definition(self, name, i))
                 for _, parameters in sections:
                     now.add(parameters)
@@ -108,44 +134,54 @@ class Crates(dict):
     def __init__(self):
         for pattern in ("src/**/*.rt", "specs/**/*.antt", "proofs/**/*.antt"):
             self.update((f.place, f) for f in map(File, sorted((TOP / "crates").glob("*/" + pattern))))
-        self.declared = {(f.crate, n): d for f in self.values() if f.place.endswith(".rt") for n, d in f.definitions.items()}
+        self.declared = {(f.crate, n): d for f in self.values() if f.is_code for n, d in f.definitions.items()}
 
-    def meant(self, file, name, depth=8):
-        """The definition that a name means in a file, or None."""
-        if found := file.definitions.get(name) or file.parts.get(name):
+    def there(self, module):
+        """The file of specs/ or proofs/ that a module's path names, or None."""
+        m = MODULE.fullmatch(module)
+        return m and self.get(f"{m[1]}/{m[2]}/{m[3].replace('.', '/')}.antt")
+
+    def meant(self, file, name, ghost=False, depth=8):
+        """The definition that a name means in a file, in a clause of a contract if `ghost`; or None."""
+        if found := not (ghost and name in file.ghosts) and (file.definitions.get(name) or file.parts.get(name)):
             return found
-        if "::" in name:
-            first, *_, last = name.split("::")
-            return self.declared.get((file.crate if first in ("crate", "super") else first, last))
-        if name not in file.imports or not depth:
-            return None
-        module, source = file.imports[name]
+        if "::" in name:  # a path of code, or of a definition in an attribute
+            first, *path, last = name.split("::")
+            crate = file.crate if first in ("crate", "super", "self") else first
+            if path and path[0] in ("specs", "proofs"):
+                there = self.get(f"{crate}/{'/'.join(path)}.antt")
+                return there and self.meant(there, last, depth=depth - 1)
+            return self.declared.get((crate, last)) or self.declared.get((file.crate, last))
+        if name in file.imports:
+            module, source = file.imports[name]
+        else:  # `tie.returns`, under `use .. as tie`
+            module, _, source = name.rpartition(".")
+            module = file.modules.get(module, module)
         if "::" in module:
             return self.meant(file, module)
-        if not (m := MODULE.match(module)):
+        if not source or not depth:
             return None
-        crate, kind, path = m.groups()
-        if path.startswith("declared."):
-            return self.declared.get((crate, path.removesuffix(".the-variants").split(".")[-1]))
-        there = self.get(f"{crate}/{kind}/{path.replace('.', '/')}.antt")
-        return there and self.meant(there, source, depth - 1)
+        if (m := MODULE.fullmatch(module)) and m[3].startswith("declared."):
+            return self.declared.get((m[1], m[3].removesuffix(".TheVariants").split(".")[-1]))
+        there = self.there(module)
+        return there and self.meant(there, source, depth=depth - 1)
 
     def way(self, file, name):
         """The modules that an imported name comes through, each with the name there, up to the one that defines it."""
         while file and name in file.imports and name not in file.definitions:
             module, name = file.imports[name]
             yield f"{module}.{name}"
-            m = MODULE.match(module)
-            file = m and self.get(f"{m[1]}/{m[2]}/{m[3].replace('.', '/')}.antt")
+            file = self.there(module)
 
     def closure(self, roots):
-        """These definitions and all that they lean on. An operator `_+_` is meant by its marks."""
-        mixed = {f: [(set(n.split("_")) - {""}, n) for n in {*f.definitions, *f.parts, *f.imports} if "_" in n] for f in self.values()}
+        """These definitions and all that they lean on. An operator `◌+◌` is meant by its marks."""
+        mixed = {f: [(set(n.split("◌")) - {""}, n) for n in {*f.definitions, *f.parts, *f.imports} if "◌" in n] for f in self.values()}
         seen, work = set(), list(roots)
         while work:
             d = work.pop()
             if d and d not in seen:
                 seen.add(d)
-                names = d.names | {n for marks, n in mixed[d.file] if marks and marks <= d.names}
-                work.extend(self.meant(d.file, n) for n in names)
+                for names, ghost in ((d.names, False), (d.cited, True)):
+                    names = names | {n for marks, n in mixed[d.file] if marks and marks <= names}
+                    work.extend(self.meant(d.file, n, ghost) for n in names)
         return seen

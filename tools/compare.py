@@ -2,9 +2,9 @@
 
     python3 tools/compare.py ORACLE_DIR ORACLE [PROGRAM]
 
-ORACLE_DIR is tests/oracle, ORACLE the program that its build.py makes, and PROGRAM target/bin/blockcases or one like it. For each of ROWS
-the records are drawn, their cases made as by tools/block_cases.py, and PROGRAM is run on them. The exit status is 1 where it finds one that
-differs, or where a row has no case.
+ORACLE_DIR is tests/oracle, ORACLE the program that its build.py makes, and PROGRAM crates/blockcases/out/blockcases, which `rt run` makes
+there, or one like it. For each of ROWS the records are drawn, their cases made as by tools/block_cases.py, and PROGRAM is run on them. The
+exit status is 1 where it finds one that differs, or where a row has no case.
 """
 import subprocess
 import sys
@@ -70,7 +70,7 @@ def main():
     if len(sys.argv) < 3:
         sys.exit(__doc__)
     folder, oracle, *given = sys.argv[1:]
-    program = str(Path(given[0]).resolve() if given else TOP / "target/bin/blockcases")
+    program = str(Path(given[0]).resolve() if given else TOP / "crates/blockcases/out/blockcases")
     oracle = [str(Path(oracle).resolve())] + block_cases.OPTIONS
     total = different = 0
     for way, command, seeds in ROWS:

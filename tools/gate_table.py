@@ -1,19 +1,23 @@
 #!/usr/bin/env python3
-"""The gate's time by crate, from what .ci/run printed: python3 tools/gate_table.py LOG
+"""What the gate did, by crate, from what .ci/run printed: python3 tools/gate_table.py LOG
 
-A row for each crate: seconds of its proof, number of its must-fail edits and their seconds. Checks run beside each other, so the
-seconds add up to more than the gate takes."""
+A row for each crate: how many functions its check proved, `kept` where an earlier run on the machine had proved the same files; how many
+must-fail edits were refused, and how many were not, were bad or were not tried. rt tells no times; docs/GATE.md has the whole run's."""
 import re
 import sys
 
-proofs, edits = {}, {}
+proofs, refused, others, crate = {}, {}, {}, None
 for line in open(sys.argv[1], encoding="utf-8"):
-    if m := re.match(r"rt: (\w+) proved \((\d+) s\)", line):
-        proofs[m[1]] = int(m[2])
-    elif m := re.match(r"rt: must-fail (\w+)/\w+: refused, .*?(\d+) s\)", line):
-        edits.setdefault(m[1], []).append(int(m[2]))
-print("| Crate | Proof, s | Edits | Edits, s |\n|---|---|---|---|")
-for name in sorted(proofs, key=lambda n: -proofs[n] - sum(edits.get(n, []))):
-    of = edits.get(name, [])
-    print(f"| {name} | {proofs[name]} | {len(of) or ''} | {sum(of) or ''} |")
-print(f"| all | {sum(proofs.values())} | {sum(map(len, edits.values()))} | {sum(map(sum, edits.values()))} |")
+    if m := re.match(r"== (\w+)$|rt: (\w+) is kept\b", line):
+        crate = m[1] or m[2]
+        proofs.setdefault(crate, "kept" if m[2] else "")
+    elif m := re.match(r"logic=proved .*?\bfunctions=(\d+)", line):
+        proofs[crate] = proofs[crate] or m[1]
+    elif m := re.match(r"rt: must-fail (\w+)/[\w.-]+: (refused\b|BAD EDIT|NOT )", line):
+        of = refused if m[2] == "refused" else others
+        of[m[1]] = of.get(m[1], 0) + 1
+print("| Crate | Functions | Edits refused | Not refused, bad, not tried |\n|---|---|---|---|")
+for name in proofs:
+    print(f"| {name} | {proofs[name]} | {refused.get(name, '')} | {others.get(name, '')} |")
+functions = sum(int(n) for n in proofs.values() if n.isdigit())
+print(f"| all {len(proofs)} | {functions} | {sum(refused.values())} | {sum(others.values())} |")

@@ -18,21 +18,21 @@ FILES = {"Moves": "Moves", "Arith": "Sums, products and quotients", "Logic": "Bi
 MOST, MOST_CONDITIONS, EDGES = 10, 64, 4
 
 HEAD = """-- %s: each row's step ends as it says.
-use mathlib.Core.List.{List, [], _∷_}
-use mathlib.Core.Path.{_≡_, refl}
-%suse Rattle·machine_runs·specs.specs.Row.{%s, stepped, reached, expected}
+use mathlib.Core.List.{List, [], ◌∷◌}
+use mathlib.Core.Path.{◌≡◌, refl}
+%suse Rattle.machine_runs.specs.Row.{%s, stepped, reached, expected}
 
 abbrev rows : List Row
 rows =
     %s
 
-pub all-end : reached rows ≡ expected rows
+pub all_end : reached rows ≡ expected rows
 unfolding stepped
-all-end = refl
+all_end = refl
 """
 REGIONS = "code stack processor context ram xip map table".split()
 STATE = ["read", "write"] + REGIONS
-ROW = "Row runs returns jumps faults calls asks reply versions same x sp nzcv pc bytes _&_ noEncoder".split()
+ROW = "Row runs returns jumps faults calls asks reply versions same x sp nzcv pc bytes ◌&◌ no_encoder".split()
 
 # Calls of the guard's helper: the register that holds its address, register 1, the answer with the upper half of register 0, the break
 # word, register 30, flags, the number that gives the rest, and the versions afterwards: the context's and those of two guards.
@@ -136,11 +136,11 @@ def row(c, vec):
 
 
 def file(out, name, what, text):
-    words = set(re.findall(r"\b[a-zA-Z]+|&", re.sub(r"--.*", "", text))) | {"Row"}
+    words = set(re.findall(r"\b[a-zA-Z_]+|&", re.sub(r"--.*", "", text))) | {"Row"}
     state = ", ".join(n for n in STATE if n in words)
-    row = ", ".join(n for n in ROW if n.strip("_") in words)
+    row = ", ".join(n for n in ROW if n.strip("◌") in words)
     with open(os.path.join(out, name + ".antt"), "w") as f:
-        f.write(HEAD % (what, "use Rattle·machine.specs.State.{%s}\n" % state if state else "", row, text))
+        f.write(HEAD % (what, "use Rattle.machine.specs.State.{%s}\n" % state if state else "", row, text))
 
 
 def written(out, name, what, groups, vec):
@@ -203,7 +203,7 @@ def main():
     lines = []
     for title, cases in refused:
         lines += ["-- " + title] + [" ∷ ".join("0x%08x" % c.word for c in cases[k:k + 9]) + " ∷" for k in range(0, len(cases), 9)]
-    file(out, "Words", "18, a word of no encoder", "noEncoder (\n    " + "\n    ".join(lines) + "\n    [])")
+    file(out, "Words", "18, a word of no encoder", "no_encoder (\n    " + "\n    ".join(lines) + "\n    [])")
     counts["Words"] = sum(len(cases) for _, cases in refused)
     with open(os.path.join(out, "Lib.antt"), "w") as f:
         f.write("".join("pub mod %s\n" % n for n in counts))

@@ -2,7 +2,7 @@
 
 A block is, one behind the other: the opening words; from the body on the limit test; in RAM the guard; the operations in order, each with
 its break check if it uses the bus; the chain behind them, unless the last of them jumps; the common exit; a nop, if the pool would not be
-aligned without; the literal pool (`blockLines`, `blockSteps` in crates/lowering/specs). Where each begins is told by listings of
+aligned without; the literal pool (`block_lines`, `block_steps` in crates/lowering/specs). Where each begins is told by listings of
 `blockwords` alone:
 
 - The limit test's branch, its third word, leads to what is behind it, and so does the guard's, its fifth.

@@ -36,8 +36,8 @@ FORMS = {0: "", 1: "nn", 2: "nn", 3: "nnn", 4: "nnn", 5: "nnn", 6: "nnno", 7: "n
 TABLES = {"o": OPS, "m": RMW, "q": CONDS, "r": RK, "p": PARTS, "c": CHOICES, "u": UN, "d": DIV}
 
 # what the groups go through, to be unfolded: of the card, and of the block
-WALKS = {"BlockMove": ("loadAll storeAll", "places"), "PushRets": ("pushAll", "upFrom"), "PopPc": ("popAll", "upFrom"),
-         "LdPair": ("loadAll", ""), "StPair": ("storeAll", "")}
+WALKS = {"BlockMove": ("load_all store_all", "places"), "PushRets": ("push_all", "up_from"), "PopPc": ("pop_all", "up_from"),
+         "LdPair": ("load_all", ""), "StPair": ("store_all", "")}
 
 
 def flag(v):
@@ -85,12 +85,17 @@ def bytes_(b):
     return " ++ ".join(f"hex {len(p)} 0x{p.hex()}" for p in pieces) or "[]"
 
 
+def width(text):
+    """The length of a text without the underscores of its names: where lines break does not hang on these."""
+    return len(text.replace("_", ""))
+
+
 def filled(parts):
     """The parts in lines of at most 140 characters; one that is too long is broken too."""
-    parts = [q for p in parts for q in ([p] if len(p) < 135 else p.split(" "))]
+    parts = [q for p in parts for q in ([p] if width(p) < 135 else p.split(" "))]
     lines = [parts[0]]
     for p in parts[1:]:
-        if len(lines[-1]) + len(p) < 134:
+        if width(lines[-1]) + width(p) < 134:
             lines[-1] += " " + p
         else:
             lines.append(p)
@@ -113,8 +118,8 @@ def site(run, listing):
 
 def leaving(run, listing):
     if run.left == "chain":
-        return f"byChain {site(run, listing)}"
-    return {"return": "byReturn", "table": "byTable"}[run.left]
+        return f"by_chain {site(run, listing)}"
+    return {"return": "by_return", "table": "by_table"}[run.left]
 
 
 def changes(s, e):
@@ -159,14 +164,14 @@ def case(run, listing, names):
 
 HEAD = """-- %s: each run reaches its end.
 use mathlib.Core.Bool.{true, false}
-use mathlib.Core.List.{List, [], _∷_%s}
-use mathlib.Core.Path.{_≡_, refl}
+use mathlib.Core.List.{List, [], ◌∷◌%s}
+use mathlib.Core.Path.{◌≡◌, refl}
 %s
-use Rattle·card.specs.Word.{signedOf, signExtend, leadingZeros}
-use Rattle·card.specs.Memory.{readLE, writeLE, load, direct, store}
-use Rattle·card.specs.Step.{%s}
-use Rattle·card.specs.Run.{opsFrom, run}
-use Rattle·card_runs·specs.specs.Case.{Case, runs, reached, expected, block, memory, op, hex, regs, card}
+use Rattle.card.specs.Word.{signed_of, sign_extend, leading_zeros}
+use Rattle.card.specs.Memory.{read_le, write_le, load, direct, store}
+use Rattle.card.specs.Step.{%s}
+use Rattle.card.specs.Run.{ops_from, run}
+use Rattle.card_runs.specs.Case.{Case, runs, reached, expected, block, memory, op, hex, regs, card}
 %s
 
 abbrev cases : List Case
@@ -174,13 +179,13 @@ cases =
     %s
     ∷ []
 
-pub all-reach : reached cases ≡ expected cases
-unfolding run opsFrom opStep load direct store readLE writeLE signedOf signExtend leadingZeros%s
-all-reach = refl
+pub all_reach : reached cases ≡ expected cases
+unfolding run ops_from op_step load direct store read_le write_le signed_of sign_extend leading_zeros%s
+all_reach = refl
 """
 CELLS = "sp rets hold brk pc done".split()
-VERSIONS = "version guardVersion".split()
-CASE = "guarded outcome leaving versions entry byReturn byTable byChain reg".split() + CELLS + VERSIONS + ["ram", "map", "_&_"]
+VERSIONS = "version guard_version".split()
+CASE = "guarded outcome leaving versions entry by_return by_table by_chain reg".split() + CELLS + VERSIONS + ["ram", "map", "◌&◌"]
 
 
 def walks(text):
@@ -191,7 +196,7 @@ def walks(text):
 
 def uses(text, names):
     """The imports of a file's text, those that it needs."""
-    found = set(re.findall(r"\b[A-Za-z0-9]+|&|\+\+", text))
+    found = set(re.findall(r"\b[A-Za-z0-9_]+|&|\+\+", text))
     kinds = [("Op", OPS, ""), ("RmwOp", RMW, "Rmw"), ("Cond", CONDS, ""), ("Base", ["Reg", "Sp"], ""), ("Amount", AMOUNT, "By"),
              ("Width", list(WIDTHS.values()), ""), ("Rk", RK, "Rk"), ("Part", PARTS, "Part"), ("Choice", CHOICES, ""), ("UnKind", UN, ""),
              ("DivKind", DIV, ""), ("Fast", names, "")]
@@ -200,15 +205,15 @@ def uses(text, names):
     for kind, all_names, prefix in kinds:
         own = [variants.get(n, f"{n[len(prefix):]} as {n}" if prefix else n) for n in all_names if n in found]
         for k in range(0, len(own), 8):
-            lines.append(f"use Rattle·block.specs.declared.{kind}.the-variants.{{{', '.join(own[k:k + 8])}}}")
+            lines.append(f"use Rattle.block.specs.declared.{kind}.TheVariants.{{{', '.join(own[k:k + 8])}}}")
     steps, registers = walks(text)
-    lines += [f"use Rattle·block.specs.Block.{{{', '.join(registers)}}}"] if registers else []
+    lines += [f"use Rattle.block.specs.Block.{{{', '.join(registers)}}}"] if registers else []
     asked = [n for n in ("read", "write", "guard") if n in found]
-    lines += [f"use Rattle·card.specs.Card.{{{', '.join(asked)}}}"] if asked else []
-    own = [n for n in CASE if n.strip("_") in found]
-    cut = len(own) if len(", ".join(own)) < 95 else 12
-    case = [f"use Rattle·card_runs·specs.specs.Case.{{{', '.join(part)}}}" for part in (own[:cut], own[cut:]) if part]
-    return "\n".join(lines), ", ".join(["opStep"] + steps), "\n".join(case)
+    lines += [f"use Rattle.card.specs.Card.{{{', '.join(asked)}}}"] if asked else []
+    own = [n for n in CASE if n.strip("◌") in found]
+    cut = len(own) if width(", ".join(own)) < 95 else 12
+    case = [f"use Rattle.card_runs.specs.Case.{{{', '.join(part)}}}" for part in (own[:cut], own[cut:]) if part]
+    return "\n".join(lines), ", ".join(["op_step"] + steps), "\n".join(case)
 
 
 def groups(path, runs):
@@ -248,7 +253,7 @@ def main():
             rows = "\n    ".join(f"-- {r.name}\n    {c}" for r, c in zip(part, cases))
             bare = re.sub("--.*", "", rows)
             unfolded = "".join(f" {n}" for names in walks(bare) for n in names)
-            f.write(HEAD % ((text, ", _++_" if "++" in rows else "") + uses(bare, readruns.ALL) + (rows, unfolded)))
+            f.write(HEAD % ((text, ", ◌++◌" if "++" in rows else "") + uses(bare, readruns.ALL) + (rows, unfolded)))
     with open(os.path.join(a.out, "Lib.antt"), "w") as f:
         f.write("".join(f"pub mod {name}\n" for name, _, _ in parts))
     print(sum(len(part) for _, _, part in parts), "runs in", len(parts), "files")

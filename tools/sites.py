@@ -2,10 +2,10 @@
 
     python3 tools/sites.py ORACLE_DIR ORACLE [PROGRAM]
 
-ORACLE_DIR is tests/oracle, ORACLE the program that its build.py makes, and PROGRAM target/bin/blockwords or a command like it. The records
-are those of crates/blockcases/stdin, and those of ROWS; a block of two sites comes twice more, with the address behind it as its jump's
-target, so that both sites have one target, and with the address two bytes before or behind that one, where it jumped behind or before it.
-Of each that ORACLE accepts PROGRAM's listing is taken, and:
+ORACLE_DIR is tests/oracle, ORACLE the program that its build.py makes, and PROGRAM crates/blockwords/out/blockwords, which `rt run` makes
+there, or a command like it. The records are those of crates/blockcases/stdin, and those of ROWS; a block of two sites comes twice more,
+with the address behind it as its jump's target, so that both sites have one target, and with the address two bytes before or behind that
+one, where it jumped behind or before it. Of each that ORACLE accepts PROGRAM's listing is taken, and:
 
   - its last lines are those of the sites, at most two;
   - their positions rise, and at each stands the word that `link` replaces, a branch to the next word;
@@ -88,7 +88,7 @@ def main():
     if len(sys.argv) < 3:
         sys.exit(__doc__)
     folder, oracle, *given = sys.argv[1:]
-    program = shlex.split(given[0]) if given else [str(block_cases.TOP / "target/bin/blockwords")]
+    program = shlex.split(given[0]) if given else [str(block_cases.TOP / "crates/blockwords/out/blockwords")]
     oracle = [str(Path(oracle).resolve())] + block_cases.OPTIONS
     total = wrong = empty = 0
     for name, seed, records in sets(Path(folder)):

@@ -17,7 +17,10 @@ command -v aarch64-linux-gnu-objdump >/dev/null || need llvm-objdump "llvm, or i
 
 tests() { python3 tools/tests.py "$@"; }
 
-run "blockwords" last rt check blockwords
+# Proved and built, and run on the record of no operations.
+blockwords() { (cd crates/blockwords && rt run <stdin) | cmp - crates/blockwords/stdout; }
+
+run "blockwords" last blockwords
 run "table of kinds, beside the proved one" tests kinds
 run "texts" tests texts
 run "text to record to text" tests round_trips

@@ -24,7 +24,7 @@ import parts
 from distances import at_distance, code_end, row
 from record import FIELDS, KINDS, OPERATIONS, TOP, Block, fault, op_field
 
-BLOCKWORDS = str(TOP / "target/bin/blockwords")
+BLOCKWORDS = str(TOP / "crates/blockwords/out/blockwords")
 EXAMPLES, PICTURE = TOP / "examples", "break_check"
 LENGTH = 4096  # of the longest record that blockwords reads
 DRAWN = ("blocks.py 2101 1500 --kinds 49 --guards --damaged 100", "blocks.py 2102 700 --request 2026-06 --damaged 100")
@@ -76,7 +76,7 @@ def kinds():
     """The table of kinds: the operands' classes are those of the table that reading is proved of, their names a checked block's."""
     table = (TOP / "crates/operands/specs/Kinds.antt").read_text()
     rows = re.findall(r"(?:∷ |\n    )kind (\[\]|\(.*? ∷ \[\]\))\s*\(λ x\. (\w+)", table[table.index("pub kinds :") :])
-    same = {"any": "any32", "off": "any32", "sel": "byte", "pre": "byte", "bit": "flag", "op": "aluOp", "rmw": "rmwOp"}
+    same = {"any": "any32", "off": "any32", "sel": "byte", "pre": "byte", "bit": "flag", "op": "alu_op", "rmw": "rmw_op"}
     assert len(rows) == len(KINDS)
     for (classes, name), (own, operands) in zip(rows, KINDS.values()):
         assert (name, re.findall(r"\w+", classes)) == (own, [same.get(of, of) for _, of in operands]), name
@@ -364,7 +364,7 @@ def readme():
     """The lines of README.md that show the way run as they stand: a block is written, made, translated, explained, shown."""
     section = (TOP / "README.md").read_text().split("## A block by hand\n")[1].split("\n## ")[0]
     lines = re.findall(r"^    (.*?)(?: +#.*)?$", section, re.M)
-    _, _, listing, explained, shown = [output("bash", "-euc", line) for line in lines]
+    _, _, _, listing, explained, shown = [output("bash", "-euc", line) for line in lines]
     assert listing.startswith("words ") and explained.startswith("accepted: ") and shown.startswith("layout "), lines
     print(f"{len(lines)} lines")
 
@@ -378,7 +378,7 @@ def missing():
         alone = run([TOP / "tools/explain", record], env={"PATH": folder})
     assert alone.returncode == 1 and all(f"{p} (package {of})" in alone.stderr for p, of in disassembly.PROGRAMS.items()), alone.stderr
     nowhere = run([TOP / "tools/explain", "--blockwords", "nowhere", record])
-    assert nowhere.returncode == 1 and "rt check blockwords" in nowhere.stderr
+    assert nowhere.returncode == 1 and "`rt run` in crates/blockwords" in nowhere.stderr
     long = run([TOP / "tools/explain", "-"], input="5" * (LENGTH + 1))
     assert long.returncode == 1 and "4,096" in long.stderr, long
     other = [(["--blockwords", p], "does not answer as blockwords does") for p in ("/bin/true", "/bin/false", "/bin/cat", "/bin/echo")]

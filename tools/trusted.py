@@ -15,7 +15,7 @@ DOCUMENT = TOP / "docs/TRUSTED.md"
 LIST = "## The list\n"
 
 # The files whose public functions are the entries, and the files of statements that a reader asks for.
-ENTRIES = ("translation/src/lib.rt", "compile/src/lib.rt", "record/src/lib.rt", "werfund/src/lib.rt",
+ENTRIES = ("translation/src/lib.rt", "compile/src/lib.rt", "record/src/lib.rt", "werfund/src/lib.rt", "werfund_c/src/lib.rt",
            "a64/src/", "floats/src/", "constants/src/", "chain/src/lib.rt", "blockwords/src/main.rt")
 CLAIMS = (
     "/specs/Claims.antt",
@@ -42,14 +42,14 @@ def entries(crates):
     """The public functions, by their signatures and contracts."""
     for place, file in crates.items():
         if place.startswith(ENTRIES):
-            yield from (d for d in file.definitions.values() if re.match(r"pub (extern \"C\" )?fn |fn put_translation", d.lines[0]))
+            yield from (d for d in file.definitions.values() if re.match(r" *pub (extern \"C\" )?fn |fn put_translation", d.lines[0]))
         elif place.endswith(CLAIMS):
             yield from file.definitions.values()
 
 
 def checksum(crates, file, definitions):
-    names = set().union(*(d.names for d in definitions))
-    imports = sorted(f"{n}={'='.join(crates.way(file, n))}" for n in file.imports if n in names or "_" in n)
+    names = set().union(*(d.names | d.cited for d in definitions))
+    imports = sorted(f"{n}={'='.join(crates.way(file, n))}" for n in file.imports if n in names or "◌" in n)
     text = "".join(imports + file.marks + [line for d in definitions for line in d.lines])
     return hashlib.sha256(re.sub(r"\s", "", text).encode()).hexdigest()[:12]
 

@@ -2,9 +2,9 @@
 
     python3 tools/untested.py ORACLE_DIR ORACLE [PROGRAM]
 
-ORACLE_DIR is tests/oracle, ORACLE the program that its build.py makes, and PROGRAM target/bin/blockwords or a command like it. The records
-are those of crates/blockcases/stdin, and those of ROWS, each with the row's map flag. Of each whose block has room, the pairs included,
-PROGRAM's listing is taken, and:
+ORACLE_DIR is tests/oracle, ORACLE the program that its build.py makes, and PROGRAM crates/blockwords/out/blockwords, which `rt run` makes
+there, or a command like it. The records are those of crates/blockcases/stdin, and those of ROWS, each with the row's map flag. Of each whose
+block has room, the pairs included, PROGRAM's listing is taken, and:
 
   - with map flag 1 there are as many pairs of words that test address bit 0 and then bit 1 as the record has word stores of its own, counted
     from its operations (WIDTHS, WORDS); with flag 0 there is no pair;
@@ -111,7 +111,7 @@ def main():
     if len(sys.argv) < 3:
         sys.exit(__doc__)
     folder, oracle, *given = sys.argv[1:]
-    program = shlex.split(given[0]) if given else [str(block_cases.TOP / "target/bin/blockwords")]
+    program = shlex.split(given[0]) if given else [str(block_cases.TOP / "crates/blockwords/out/blockwords")]
     commit = [str(Path(oracle).resolve())] + [o for o in block_cases.OPTIONS if o != "--wordtest"]
     wrong = empty = 0
     for name, seed, flag, records in sets(Path(folder)):

@@ -7,7 +7,7 @@ lines up to the next `>` are its listing. OUT is the `proofs` folder of a crate 
 gets `Words.antt` and `Lib.antt`. For each accepted record, of at most WORDS words, four equations say that the definitions give these
 very words and these very sites in this order, that the patches are where a word of the listing before the pool has a distance, by its
 opcode, and that behind half of them the words are the listing's with the distances of the others 0. LISTING is a command that prints a
-record's listing as the commit has it, without the tests of 2026-04: with it a fifth equation says that `commitWords` are its words. With
+record's listing as the commit has it, without the tests of 2026-04: with it a fifth equation says that `commit_words` are its words. With
 --refused there is also an equation for each record that is refused, but for 10: that reading answers this number at this place. Each holds
 by computation, so that `rt check` of the crate compares every word.
 """
@@ -21,30 +21,30 @@ sys.dont_write_bytecode = True
 from distances import at_distance, row
 
 UNFOLDED = {
-    "block.specs.Block": "places upFrom",
-    "record.specs.Record": "reading num16 num32 num64 fieldFault layoutFault regionFault memoryFault startFault contentsFault operationOf "
-                           "operationFault operations header refusedOr layoutField memoryField addressesField startField guardField "
-                           "inRam withinRam",
-    "lowering.specs.Compile": "blockWords blockLines blockCode sites starts",
-    "lowering.specs.Commit": "commitWords commitLines commitCode",
-    "lowering.specs.Fragments": "addImm brkFirst even loads tryRegion extended alignTest mapTest stores call exitImm chain ind hold "
-                                "checkBrk fork limit guard load store stepCode stepCache stepsCode opening closing",
-    "lowering.specs.Cache": "position latest oldest chosen spill slotFor seated ldReg stReg stored flushFrom flush reloadFrom reload",
+    "block.specs.Block": "places up_from",
+    "record.specs.Record": "reading num16 num32 num64 field_fault layout_fault region_fault memory_fault start_fault contents_fault "
+                           "operation_of operation_fault operations header refused_or layout_field memory_field addresses_field "
+                           "start_field guard_field in_ram within_ram",
+    "lowering.specs.Compile": "block_words block_lines block_code sites starts",
+    "lowering.specs.Commit": "commit_words commit_lines commit_code",
+    "lowering.specs.Fragments": "add_imm brk_first even loads try_region extended align_test map_test stores call exit_imm chain ind hold "
+                                "check_brk fork limit guard load store step_code step_cache steps_code opening closing",
+    "lowering.specs.Cache": "position latest oldest chosen spill slot_for seated ld_reg st_reg stored flush_from flush reload_from reload",
     "lowering.specs.Instrs": "mov32",
-    "lowering.specs.Steps": "moveWords pushAll popAll lowered opSteps opsSteps blockSteps",
-    "code.specs.Items": "index add halves padOf baseOf",
-    "code.specs.Tree": "words lines instrs wholeLines poolIn findIn linesWords",
-    "code.specs.Walk": "linesAt patchesOf unpatchedWords completedAt walkedWords",
+    "lowering.specs.Steps": "move_words push_all pop_all lowered op_steps ops_steps block_steps",
+    "code.specs.Items": "index add halves pad_of base_of",
+    "code.specs.Tree": "words lines instrs whole_lines pool_in find_in lines_words",
+    "code.specs.Walk": "lines_at patches_of unpatched_words completed_at walked_words",
 }
 
 # The common exit, behind which the pool begins.
 CLOSING = "a94573fb a9446bf9 a94363f7 a9425bf5 a94153f3 a8c67bfd d65f03c0".split()
 
 HEAD = """-- Each record gives these words, these sites and this walk over the patches, by computation.
-use mathlib.Core.Path.{_≡_, refl}
-use mathlib.Core.List.{List, [], _∷_}
-use Prim.Native.Nat.{ℕ, zero, suc, _/_, _%_, _^_}
-use Rattle·lowering.specs.declared.Site.{Site}
+use mathlib.Core.Path.{◌≡◌, refl}
+use mathlib.Core.List.{List, [], ◌∷◌}
+use Prim.Native.Nat.{ℕ, zero, suc, ◌/◌, ◌%◌, ◌^◌}
+use Rattle.lowering.specs.declared.Site.{Site}
 """
 
 HEX = """
@@ -111,7 +111,7 @@ def refused(n, name, record, number, place):
     """The equation on a refusal."""
     return f"""
 -- {name}
-answer{n} : reading (hex {len(record) // 2} 0x{record or "0"}) .answer ≡ Refused {number} {place}
+answer{n} : (reading (hex {len(record) // 2} 0x{record or "0"})).answer ≡ Refused {number} {place}
 unfolding {UNFOLDED["block.specs.Block"]} {UNFOLDED["record.specs.Record"]}
 answer{n} = refl
 """
@@ -120,14 +120,14 @@ answer{n} = refl
 def equations(n, case, commit):
     name, record, words, sites = case
     unfolding = "unfolding " + " ".join(UNFOLDED.values())
-    block = f"(reading (hex {len(record) // 2} 0x{record}) .block)"
+    block = f"(reading (hex {len(record) // 2} 0x{record})).block"
     found = patches(words)
     half = len(found) // 2
     later = set(list(found)[half:])
     walked = [found[i] if i in later else w for i, w in enumerate(words)]
     return f"""
 -- {name}
-words{n} : blockWords {block} ≡ {listed("0x" + w for w in words)}
+words{n} : block_words {block} ≡ {listed("0x" + w for w in words)}
 {unfolding}
 words{n} = refl
 
@@ -135,11 +135,11 @@ sites{n} : sites {block} ≡ {listed(f"site {p} 0x{t}" for p, t in sites)}
 {unfolding}
 sites{n} = refl
 
-patches{n} : patchesOf (blockLines {block}) ≡ {listed(found)}
+patches{n} : patches_of (block_lines {block}) ≡ {listed(found)}
 {unfolding}
 patches{n} = refl
 
-walked{n} : walkedWords {half} (blockLines {block}) ≡ {listed("0x" + w for w in walked)}
+walked{n} : walked_words {half} (block_lines {block}) ≡ {listed("0x" + w for w in walked)}
 {unfolding}
 walked{n} = refl
 """ + (committed(n, record, block, unfolding, commit) if commit else "")
@@ -150,7 +150,7 @@ def committed(n, record, block, unfolding, commit):
     out = subprocess.run(shlex.split(commit), input=bytes.fromhex(record), stdout=subprocess.PIPE, check=True).stdout.decode()
     words = words_of([line.split() for line in out.splitlines()])
     return f"""
-commit{n} : commitWords {block} ≡ {listed("0x" + w for w in words)}
+commit{n} : commit_words {block} ≡ {listed("0x" + w for w in words)}
 {unfolding}
 commit{n} = refl
 """
@@ -167,9 +167,9 @@ def main():
     if not a.commit:
         del UNFOLDED["lowering.specs.Commit"]
     taken = [c for c in cases(a.records) if len(c[2]) <= a.most]
-    uses = "".join(f"use Rattle·{module}.{{{', '.join(names.split())}}}\n" for module, names in UNFOLDED.items())
+    uses = "".join(f"use Rattle.{module}.{{{', '.join(names.split())}}}\n" for module, names in UNFOLDED.items())
     lost = list(refusals(a.records)) if a.refused else []
-    uses += "use Rattle·record.specs.declared.Answer.the-variants.{Refused}\n" if lost else ""
+    uses += "use Rattle.record.specs.declared.Answer.TheVariants.{Refused}\n" if lost else ""
     os.makedirs(a.out, exist_ok=True)
     with open(os.path.join(a.out, "Words.antt"), "w") as f:
         f.write(HEAD + uses + HEX + "".join(equations(n, c, a.commit) for n, c in enumerate(taken)))

@@ -1,4 +1,4 @@
-//! Links libwerfund.a of the target: target/staticlib at the top of the repository, which `rt staticlib werfund` writes, for AArch64
+//! Links libwerfund.a of the target: target/staticlib at the top of the repository, which host/build.sh writes, for AArch64
 //! target/staticlib-aarch64, which host/arm/build.sh writes.
 use std::path::Path;
 

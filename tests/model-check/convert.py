@@ -4,7 +4,7 @@
     python3 convert.py REPO ADAPTER.antt DEPS VECTORS.txt.. [--per N] [--crates K] [--keep DIR] [--only NAME,..] [--first N]
 
 REPO        a Rattle repository (crates.txt, crates/) that holds the model
-ADAPTER     a file that declares `unfoldable pub run : N -> Start -> End` (see Cases.antt.txt)
+ADAPTER     a file that declares `unfoldable pub run : ℕ → Start → End` (see Cases.antt.txt)
 DEPS        the crates that the adapter names, with commas
 --per       cases in one computed equation (100)
 --crates    crates that the equations are spread over, checked side by side (2)
@@ -60,15 +60,14 @@ def case(c):
         outs.append("(record { answer = %s; brk = %s; ram = %s; map = %s; scratch = %s; link = %s; nzcv = %d })" % (
             hx(a), hx(b), nums(vec.outcome_bytes(seed, vec.RAM)), nums(vec.outcome_bytes(seed, vec.MAP)), nums(vec.outcome_scratch(seed, a)), hx(link), f))
     return (
-        "record { word = %s; pc = %s; sp = %s; nzcv = %d; x = %s; mem = %s; outcomes = %s; status = %d; pc′ = %s; sp′ = %s; nzcv′ = %d; x′ = %s; mem′ = %s; requests = %s }"
+        "record { word = %s; pc = %s; sp = %s; nzcv = %d; x = %s; mem = %s; outcomes = %s; status = %d; pc' = %s; sp' = %s; nzcv' = %d; x' = %s; mem' = %s; requests = %s }"
         % (hx(c.word), hx(c.pc), hx(c.sp), c.f, regs(c.x), puts(m), items(outs), c.e, hx(pc1), hx(sp1), f1, regs(c.x1), puts(c.m1), items(["(" + nums(q) + ")" for q in c.q])))
 
 
 COMMON = """-- The start that the cases share.
-use mathlib.Core.List.{{List, [], _∷_}}
-use Prim.Native.Nat.{{ℕ}}
-use Rattle·{crate}·specs.specs.Cases as C
-use Rattle·{crate}·specs.specs.Adapter.{{run}}
+use Rattle.std.specs.Prelude.{{List, [], ◌∷◌, ℕ}}
+use Rattle.{crate}.specs.Cases as C
+use Rattle.{crate}.specs.Adapter.{{run}}
 
 abbrev pub bases : List ℕ
 bases = {bases}
@@ -84,12 +83,10 @@ abbrev pub failing : ℕ → List C.Case → List ℕ
 failing = C.failing bases {read} {write} x₀ mem₀ run
 """
 
-TABLE = """use mathlib.Core.Path.{{_≡_, refl}}
-use mathlib.Core.List.{{List, [], _∷_}}
-use Prim.Native.Nat.{{ℕ}}
-use Rattle·{crate}·specs.specs.Cases.{{Case, plain, _≔_, put}}
-use Rattle·{crate}·specs.specs.Adapter.{{run}}
-use Rattle·{crate}·specs.specs.Common.{{failing}}
+TABLE = """use Rattle.std.specs.Prelude.{{◌≡◌, refl, List, [], ◌∷◌, ℕ}}
+use Rattle.{crate}.specs.Cases.{{Case, plain, ◌≔◌, put}}
+use Rattle.{crate}.specs.Adapter.{{run}}
+use Rattle.{crate}.specs.Common.{{failing}}
 
 abbrev table : List Case
 table =
@@ -114,10 +111,10 @@ def crate(root, name, adapter, chunks, single=False):
     os.makedirs(d + "/src")
     os.makedirs(d + "/specs")
     with open(d + "/src/lib.rt", "w") as f:
-        f.write("// Cases of the machine's steps: see specs/.\n")
+        f.write("// Cases of the machine's steps: see specs/.\n#![tactic(auto)]\n")
     for n in ("Cases.antt", "Adapter.antt"):
         text = open(adapter if n == "Adapter.antt" else os.path.join(HERE, n + ".txt")).read()
-        open(d + "/specs/" + n, "w").write(text.replace("Rattle·vectors·specs", "Rattle·%s·specs" % name))
+        open(d + "/specs/" + n, "w").write(text.replace("Rattle.vectors.", "Rattle.%s." % name))
     with open(d + "/specs/Common.antt", "w") as f:
         f.write(COMMON.format(
             crate=name, bases=nums([r[1] for r in vec.REGIONS]), x=nums([vec.base_x(i) for i in range(31)]),
@@ -132,6 +129,21 @@ def crate(root, name, adapter, chunks, single=False):
                 text = text.split("abbrev table")[0] + "".join(ONE.format(i=first + k, row=case(c)) for k, c in enumerate(cs))
             f.write(text)
     open(d + "/specs/Lib.antt", "w").write("".join("pub mod %s\n" % m for m in mods))
+
+
+def checked(root, names):
+    """Checks crates side by side: whether all are proved, and what was said."""
+    how = dict(stdout=subprocess.PIPE, stderr=subprocess.STDOUT, text=True)
+    runs = [subprocess.Popen(["rt", "check"], cwd=os.path.join(root, "crates", n), **how) for n in names]
+    said = [r.communicate()[0] for r in runs]
+    return not any(r.returncode for r in runs), "".join(said)
+
+
+def copied(repo, root):
+    """The crates in a folder of their own, without what was made of them."""
+    shutil.rmtree(root, ignore_errors=True)
+    os.makedirs(root)
+    shutil.copytree(os.path.join(repo, "crates"), root + "/crates", ignore=shutil.ignore_patterns("out"))
 
 
 def main():
@@ -150,10 +162,8 @@ def main():
     if a.only:
         cases = [c for c in cases if c.name in a.only.split(",")]
     cases = cases[: a.first] if a.first else cases
-    root = a.keep or tempfile.mkdtemp(prefix="vectors")
-    shutil.rmtree(root, ignore_errors=True)
-    os.makedirs(root)
-    shutil.copytree(os.path.join(a.repo, "crates"), root + "/crates")
+    root = os.path.abspath(a.keep or tempfile.mkdtemp(prefix="vectors"))
+    copied(a.repo, root)
     chunks = [(i, cases[i : i + a.per]) for i in range(0, len(cases), a.per)]
     names = ["vectors%d" % k for k in range(min(a.crates, len(chunks)))]
     with open(root + "/crates.txt", "w") as f:
@@ -163,15 +173,14 @@ def main():
     for k, n in enumerate(names):
         crate(root, n, a.adapter, chunks[k :: len(names)])
     # the model first, so that the time is the cases' own
-    env = dict(os.environ, RT_CUT="0")
-    r = subprocess.run(["rt", "check"] + a.deps.split(","), cwd=root, env=env, capture_output=True, text=True)
-    if r.returncode:
-        sys.exit("the model is not proved:\n" + r.stdout[-3000:] + r.stderr[-1000:])
+    for dep in a.deps.split(","):
+        proved, text = checked(root, [dep])
+        if not proved:
+            sys.exit("the model is not proved:\n" + text[-3000:])
     t = time.time()
-    r = subprocess.run(["rt", "check"] + names, cwd=root, env=env, capture_output=True, text=True)
+    proved, text = checked(root, names)
     t = time.time() - t
-    text = r.stdout + r.stderr
-    if r.returncode == 0:
+    if proved:
         print("%d cases agree, %.1f s, %.0f a second" % (len(cases), t, len(cases) / t))
     else:
         failed = sorted({int(n) for n in re.findall(r"From(\d+)\.antt:\d+:\d+: error", text)})
@@ -179,7 +188,7 @@ def main():
         crate(root, "singles", a.adapter, [(i, cases[i : i + a.per]) for i in failed], single=True)
         with open(root + "/crates.txt", "a") as f:
             f.write("singles: %s\n" % a.deps.replace(",", " "))
-        text += subprocess.run(["rt", "check", "singles"], cwd=root, env=env, capture_output=True, text=True).stdout
+        text += checked(root, ["singles"])[1]
         open(root + "/output", "w").write(text)
         bad = sorted({int(n) for n in re.findall(r"error: `case(\d+)`", text)})
         print("%d cases, NOT proved, %.1f s; the output is %s/output; cases that differ: %d" % (len(cases), t, root, len(bad)))
@@ -193,9 +202,9 @@ def main():
         print("  " + ", ".join("%s %d" % kv for kv in sorted(by.items())))
         for i in bad[:40]:
             print(("  %d: %s" % (i, cases[i].line()))[:240])
-    if not a.keep and r.returncode == 0:
+    if not a.keep and proved:
         shutil.rmtree(root)
-    sys.exit(r.returncode != 0)
+    sys.exit(not proved)
 
 
 if __name__ == "__main__":

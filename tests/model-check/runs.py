@@ -231,11 +231,9 @@ def parse(path):
     return runs
 
 
-HEAD = """use mathlib.Core.Path.{{_≡_, refl}}
-use mathlib.Core.List.{{List, [], _∷_}}
-use Prim.Native.Nat.{{ℕ}}
-use Rattle·{crate}·specs.specs.Cases.{{Outcome, Part, Start, End, RunCase, failingRuns}}
-use Rattle·{crate}·specs.specs.Adapter.{{run}}
+HEAD = """use Rattle.std.specs.Prelude.{{◌≡◌, refl, List, [], ◌∷◌, ℕ}}
+use Rattle.{crate}.specs.Cases.{{Outcome, Part, Start, End, RunCase, failing_runs}}
+use Rattle.{crate}.specs.Adapter.{{run}}
 """
 
 RUN = """
@@ -247,7 +245,7 @@ case{i} =
       end = record {{ status = {e}; x = {x1}; sp = {sp1}; nzcv = {f1}; pc = {pc1}; bytes = {bytes}; requests = {reqs}; left = {left}; count = {count} }}
     }}
 
-agrees{i} : failingRuns run {i} (case{i} ∷ []) ≡ []
+agrees{i} : failing_runs run {i} (case{i} ∷ []) ≡ []
 unfolding run
 agrees{i} = refl
 """
@@ -277,10 +275,8 @@ def check(args):
     import convert
 
     runs = parse(a.runs)[: a.first]
-    root = a.keep or tempfile.mkdtemp(prefix="runs")
-    shutil.rmtree(root, ignore_errors=True)
-    os.makedirs(root)
-    shutil.copytree(os.path.join(a.repo, "crates"), root + "/crates")
+    root = os.path.abspath(a.keep or tempfile.mkdtemp(prefix="runs"))
+    convert.copied(a.repo, root)
     names = ["runs%d" % k for k in range(a.crates)]
     with open(root + "/crates.txt", "w") as f:
         f.write(open(os.path.join(a.repo, "crates.txt")).read().rstrip("\n") + "\n")
@@ -293,23 +289,23 @@ def check(args):
             mods.append("From%d" % j)
             open(d + mods[-1] + ".antt", "w").write(HEAD.format(crate=n) + "".join(antt(i, runs[i]) for i in range(j, min(j + a.per, len(runs)))))
         open(d + "Lib.antt", "a").write("".join("pub mod %s\n" % m for m in mods))
-    env = dict(os.environ, RT_CUT="0")
-    r = subprocess.run(["rt", "check"] + a.deps.split(","), cwd=root, env=env, capture_output=True, text=True)
-    if r.returncode:
-        sys.exit("the model is not proved:\n" + r.stdout[-3000:])
+    for dep in a.deps.split(","):
+        proved, text = convert.checked(root, [dep])
+        if not proved:
+            sys.exit("the model is not proved:\n" + text[-3000:])
     t = time.time()
-    r = subprocess.run(["rt", "check"] + names, cwd=root, env=env, capture_output=True, text=True)
+    proved, text = convert.checked(root, names)
     t = time.time() - t
     steps = sum(c["end"][2] for c in runs)
-    if r.returncode == 0:
+    if proved:
         print("%d runs (%d instructions) agree, %.1f s" % (len(runs), steps, t))
         if not a.keep:
             shutil.rmtree(root)
     else:
-        open(root + "/output", "w").write(r.stdout + r.stderr)
-        bad = sorted({int(n) for n in re.findall(r"error: `agrees(\d+)`", r.stdout)})
+        open(root + "/output", "w").write(text)
+        bad = sorted({int(n) for n in re.findall(r"error: `agrees(\d+)`", text)})
         print("%d runs (%d instructions), NOT proved, %.1f s; the output is %s/output; runs that differ: %s" % (len(runs), steps, t, root, [(i, runs[i]["name"]) for i in bad]))
-    sys.exit(r.returncode != 0)
+    sys.exit(not proved)
 
 
 if __name__ == "__main__":
