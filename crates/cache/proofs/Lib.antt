@@ -1,4 +1,3 @@
 pub mod Search
 pub mod Cases
-pub mod Pool
 pub mod Order

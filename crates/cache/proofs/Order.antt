@@ -23,9 +23,6 @@ pub record Sofar (i : ℕ) (order q : List ℕ) (met : Bool) (k : ℕ) : Type 0 
   pub rest : drop k q ≡ drop k order
   pub whole : latest i order ≡ take k q ++ to_come i order met k
 
-pub begun : (i : ℕ) (order : List ℕ) → length order ≡ 8 → Sofar i order order false 0
-begun i order h = record { order-length = h; length_is = h; rest = refl; whole = refl }
-
 module _ (i : ℕ) (order q : List ℕ) (met : Bool) (k : ℕ) (s : Sofar i order q met k) (l : k < 7) where
   in_order : k < length order
   in_order = omega (arith, s.order-length)
@@ -108,11 +105,6 @@ module _ (i : ℕ) (order q : List ℕ) (met : Bool) (s : Sofar i order q met 7)
 
   last_same : get_or q 7 0 ≡ get_or order 7 0
   last_same = cc ((ends q s.length_is).0, (ends order s.order-length).0, s.rest)
-
-  pub moved_last : met ≡ true → set q 7 i ≡ latest i order
-  moved_last m =
-      let l : 7 < length q = omega (arith, s.length_is) in
-      set_split q 7 i l ∙ rw (ends q s.length_is).1 (sym (s.whole ∙ rw (m, (ends order s.order-length).1)))
 
   pub kept_last : met ≡ false → q ≡ latest i order
   kept_last m =

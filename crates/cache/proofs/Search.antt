@@ -20,12 +20,5 @@ module _ (xs : List ℕ) (i v : ℕ) (h : i < length xs) where
   unfolding position
   position_later ne = rw (add-one, drop-cons xs i 0 h, ne_eqb _ _ ne)
 
-pub position_end : (xs : List ℕ) (i v : ℕ) → length xs ≤ i → position v (drop i xs) ≡ 0
-unfolding position
-position_end xs i v h = rw (drop_of_length-le xs h)
-
 pub found_at : (rc : RegCache) (r i : ℕ) → i < 8 → position r rc.guest ≡ i → At i ≡ lookup rc r
 found_at rc r i h e = rw (e, lt-ltb _ _ h)
-
-pub found_none : (rc : RegCache) (r i : ℕ) → 8 ≤ i → position r rc.guest ≡ i → Nothing ≡ lookup rc r
-found_none rc r i h e = rw (e, le-ltb _ _ h)

@@ -96,7 +96,7 @@ fn sized(tab: &[u64; 6152])
 // `compile`, with the walk over the patches stopped behind the first `upto`: the words up to the last of these are final, those behind it
 // have the distance 0 still; zeros where the block does not fit.
 pub fn compile_to(out: &mut [u32], tab: &mut [u64; 6152], b: Block, upto: u32) -> Compiled
-    ensures finished_value { Checked b → (result.finished ≡ told (block_words b) out.old) × (out.new ≡ laid (walked_words upto (block_lines b)) out.old) × (ats_of result.sites ≡ starts (block_code b) 0) × (targets_of result.sites ≡ targets (block_steps b)) }
+    ensures walked { Checked b → (result.finished ≡ told (block_words b) out.old) × (out.new ≡ laid (walked_words upto (block_lines b)) out.old) × (ats_of result.sites ≡ starts (block_code b) 0) × (targets_of result.sites ≡ targets (block_steps b)) }
     ensures one_walk { Checked b → length (block_words b) ≤ length out.old → OneWalk (block_lines b) upto out.old out.new }
 {
     sized(tab);

@@ -58,10 +58,6 @@ pub after_both : (s : Sequence) (xs ys : List Instr) → after (after s (words_o
 after_both s [] ys = refl
 after_both s (x ∷ xs) ys = after_both (pushed s (encode x)) xs ys
 
--- in the arm of the case p of s
-pub push-arm : (s p : Sequence) (w : ℕ) (r : Sequence) → s ≡ p → r ≡ pushed p w → r ≡ pushed s w
-push-arm s p w r e h = h ∙ ap (λ (q : Sequence). pushed q w) (sym e)
-
 -- none of the words is lost
 abbrev Kept : List Instr → Type 0
 Kept is = told_words (after Empty (words_of is)) ≡ accepted (words_of is)

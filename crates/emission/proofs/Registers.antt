@@ -20,9 +20,6 @@ use Rattle.emission.proofs.After.{none, same, more}
 
 -- what a slot's new holder puts out
 module _ (q : Spill) (s : State) where
-  pub spill-store : (h at : ℕ) (s₁ : State) → q ≡ Store h at → s₁ ≡ emitted (MemoryImm StrW at CPU h ∷ []) s → s₁ ≡ emitted (spilled q) s
-  spill-store h at s₁ e p = rw e p
-
   pub spill-nothing : q ≡ Free → s ≡ emitted (spilled q) s
   spill-nothing e = rw e (none s)
 

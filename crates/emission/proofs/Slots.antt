@@ -34,10 +34,6 @@ pub slot-free : (lay : Layout) (h g : ℕ) (s : State) → g ≡ FREE → s ≡ 
 unfolding emitted run_t
 slot-free lay h g s f = rw (eq-eqb g FREE f)
 
-pub slot-stored : (lay : Layout) (h g : ℕ) (s s₁ : State) (k : ℕ) → (g ≡ FREE → ⊥) → k ≡ off_reg lay g / 4 → s₁ ≡ emitted (MemoryImm StrW k CPU h ∷ []) s → s₁ ≡ emitted (flushed lay h g true) s
-unfolding emitted run_t
-slot-stored lay h g s s₁ k n o p = rw (ne_eqb g FREE n) (p ∙ ap (λ j. emitted (MemoryImm StrW j CPU h ∷ []) s) o)
-
 -- ---- all slots
 run-pick : (lay : Layout) (h g : ℕ) (is : List Instr) (u : Bool) (s : State)
     → emitted (pick u (str h CPU (off_reg lay g) ∷ is) is) s ≡ emitted is (emitted (pick u (str h CPU (off_reg lay g) ∷ []) []) s)
@@ -75,10 +71,6 @@ module _ (lay : Layout) (gs : List ℕ) (ds : List Bool) (a : length gs ≡ 8) (
 pub load-free : (lay : Layout) (h g : ℕ) (s : State) → g ≡ FREE → s ≡ emitted (reloaded lay h g) s
 unfolding emitted run_t
 load-free lay h g s e = rw (eq-eqb g FREE e)
-
-pub load-held : (lay : Layout) (h g : ℕ) (s s₁ : State) (k : ℕ) → (g ≡ FREE → ⊥) → k ≡ off_reg lay g / 4 → s₁ ≡ emitted (MemoryImm LdrW k CPU h ∷ []) s → s₁ ≡ emitted (reloaded lay h g) s
-unfolding emitted run_t
-load-held lay h g s s₁ k n o p = rw (ne_eqb g FREE n) (p ∙ ap (λ j. emitted (MemoryImm LdrW j CPU h ∷ []) s) o)
 
 load-pick : (lay : Layout) (h g : ℕ) (is : List Instr) (u : Bool) (s : State)
     → emitted (pick u is (ldr h CPU (off_reg lay g) ∷ is)) s ≡ emitted is (emitted (pick u [] (ldr h CPU (off_reg lay g) ∷ [])) s)

@@ -5,16 +5,10 @@ use Rattle.code.specs.Items.{pick, dist}
 use Rattle.finish.specs.Finish.{field_of}
 
 -- ---- the difference of two positions
-pub difference : (t h : ℕ) → pos t -ℤ pos h ≡ dist t h
-difference t zero = rw (le-ltb t 0 (omega arith)) (ap pos (omega arith))
-difference t (suc h) = refl
 
 mag_cond : (b : Bool) (x y : ℤ) (n : ℕ) → mag x < n → mag y < n → mag (cond b x y) < n
 mag_cond true x y n p q = p
 mag_cond false x y n p q = q
-
-pub mag_dist : (t h n : ℕ) → t < n → h < n → mag (dist t h) < n
-mag_dist t h n p q = mag_cond (ltb t h) (negsuc (h - suc t)) (pos (t - h)) n (omega arith) (omega arith)
 
 -- a small number is the one that 64 bits stand for
 pub as_is : (z : ℤ) → mag z < 2 ^ 40 → to_z w64 (of_z w64 z) ≡ z

@@ -7,10 +7,6 @@ use native.Mathlib.Omega.{arith}
 use lib.ListN.{length, get_or, get_or-eq_default}
 use Rattle.operands.specs.Faults.{◌gives◌, ◌then◌}
 
--- a table's default, beyond its end
-pub beyond : {A : Type 0} (l : List A) (d : A) (i : ℕ) → length l ≤ i → d ≡ get_or l i d
-beyond l d i h = sym (get_or-eq_default l d h)
-
 -- what the last arm of a match on 0, 1 .. knows
 abbrev pub Others : ℕ → ℕ → Type 0
 Others zero x = Unit {0}
@@ -19,10 +15,6 @@ Others (suc k) x = Others k x × (x ≡ k → ⊥)
 above : (k x : ℕ) → Others k x → k ≤ x
 above zero x h = zero-le
 above (suc k) x h = let g : k ≤ x = above k x h.0 in omega (arith, h.1)
-
--- a number above a selector's cases is its last case
-pub last_case : {A : Type 0} (l : List A) (d : A) (x : ℕ) → Others (length l) x → d ≡ get_or l x d
-last_case l d x h = beyond l d x (above (length l) x h)
 
 -- the one number that is left
 pub left_over : (k x : ℕ) → Others k x → x < suc k → x ≡ k

@@ -63,7 +63,7 @@ fn listed_sites(s: lower::Sites) -> Sites
 // The words of an accepted record's block, those beyond untouched, and its chain sites by rising word position, each once; or the first
 // fault, and every lent word 0.
 pub fn translate(bytes: &[u8], words: &mut [u32], table: &mut [u64; 6152]) -> Translated
-    ensures result_value { told result ≡ translation bytes.now words.old }
+    ensures answer { told result ≡ translation bytes.now words.old }
     ensures words_after { words.new ≡ lent_after bytes.now words.old }
     ensures sited { Sited (told result) bytes.now }
     ensures runs { Runs (told result) bytes.now words.new }
@@ -90,7 +90,7 @@ pub fn translate(bytes: &[u8], words: &mut [u32], table: &mut [u64; 6152]) -> Tr
 // The words that a record's block takes, by the lowering that `translate` calls: emitting counts also where there is no room. Nothing is
 // lent, so nothing is written but the table, which is working space.
 pub fn words_needed(bytes: &[u8], table: &mut [u64; 6152]) -> Needed
-    ensures result_value { need_told result ≡ words_needed bytes.now }
+    ensures answer { need_told result ≡ words_needed bytes.now }
     ensures exact { Exact (need_told result) bytes.now }
     ensures included { Included (need_told result) bytes.now }
 {

@@ -92,13 +92,13 @@ pub extern "C" fn werfund_translate(
     table: &mut [u64; 6152],
     answer: &mut [u64],
 ) -> u32
-    ensures value { result ≡ number_of (translation bytes.now words.old) }
-    ensures answer_after { answer.new ≡ lay (cells_of (translation bytes.now words.old)) answer.old }
+    ensures number { result ≡ number_of (translation bytes.now words.old) }
+    ensures cells { answer.new ≡ lay (cells_of (translation bytes.now words.old)) answer.old }
     ensures words_after { words.new ≡ lent_after bytes.now words.old }
     ensures sited { Sited (translation bytes.now words.old) bytes.now }
     ensures runs { Runs (translation bytes.now words.old) bytes.now words.new }
     ensures meant { Meant (translation bytes.now words.old) bytes.now words.new }
-    ensures reading_faults_value { among result (0 ∷ 10 ∷ reading_faults) ≡ true }
+    ensures known_fault { among result (0 ∷ 10 ∷ reading_faults) ≡ true }
 {
     let t = translation::translate(bytes, words, table);
     put_cells(answer, cells(t));
@@ -131,11 +131,11 @@ pub extern "C" fn werfund_words_needed(
     table: &mut [u64; 6152],
     answer: &mut [u64],
 ) -> u32
-    ensures value { result ≡ need_number (words_needed bytes.now) }
-    ensures answer_after { answer.new ≡ lay (need_cells (words_needed bytes.now)) answer.old }
+    ensures number { result ≡ need_number (words_needed bytes.now) }
+    ensures cells { answer.new ≡ lay (need_cells (words_needed bytes.now)) answer.old }
     ensures exact { Exact (words_needed bytes.now) bytes.now }
     ensures included { Included (words_needed bytes.now) bytes.now }
-    ensures reading_faults_value { among result (0 ∷ reading_faults) ≡ true }
+    ensures known_fault { among result (0 ∷ reading_faults) ≡ true }
 {
     let n = translation::words_needed(bytes, table);
     let cells = need_cells(n);

@@ -42,10 +42,6 @@ fails false i e = refl
 pub class-word : (i : Instr) (e : Encoded) (w : ℕ) → w ≡ word_of e → Answers i e → w ≡ word_of (answer i)
 class-word i e w h a = h ∙ ap word_of (answers_is i e a)
 
--- an answer for an operand is the answer for what the operand is
-pub with : {A : Type 0} (f : A → Encoded) {x y : A} {t : Told ℕ} → t ≡ told (f x) → x ≡ y → t ≡ told (f y)
-with f h e = h ∙ ap (λ v. told (f v)) e
-
 pub carried-word : (i : Instr) → Carried i → answer i ≡ Word (encode i)
 unfolding answer
 carried-word i h = go (carried i) (carried_true i h)
