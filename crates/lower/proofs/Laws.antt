@@ -1,5 +1,5 @@
 -- Lists of steps, lowered one behind another.
-use mathlib.Core.Path.{◌≡◌, refl, sym, ap, ap₂, ◌∙◌}
+use mathlib.Core.Path.{◌≡◌, refl, sym, ap, ◌∙◌}
 use mathlib.Core.List.{List, [], ◌∷◌, ◌++◌, append_assoc, append-nil}
 use Prim.Native.Nat.{ℕ, zero, suc, ◌+◌, ◌<◌, ◌≤◌}
 use lib.ListN.{take, set, length, length-append}
@@ -8,8 +8,7 @@ use native.Mathlib.Omega.{arith}
 use native.Mathlib.Numerals.{add-one}
 use Rattle.block.specs.declared.Block.{Block}
 use Rattle.arm.specs.declared.Instr.{Instr}
-use Rattle.code.specs.Tree.{top, Code, code, nowhere}
-use Rattle.lowering.specs.declared.RegCache.{RegCache}
+use Rattle.code.specs.Tree.{top, code, nowhere}
 use Rattle.lowering.specs.Steps.{Step as Meant}
 use Rattle.lowering.specs.Fragments.{step_code, step_cache, steps_code}
 use Rattle.lowering.specs.Compile.{targets}

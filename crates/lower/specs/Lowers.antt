@@ -5,7 +5,7 @@ use Rattle.code.specs.Tree.{nowhere}
 use Rattle.lowering.specs.Steps.{Step}
 use Rattle.lowering.specs.Fragments.{steps_code}
 use Rattle.lowering.specs.Compile.{targets}
-use Rattle.asm.specs.State.{State, state}
+use Rattle.asm.specs.State.{state}
 use Rattle.emission.specs.Total.{after_t, starts_t}
 use Rattle.stepping.specs.Behind.{cache_behind}
 use Rattle.lower.specs.declared.Sites.{Sites}
