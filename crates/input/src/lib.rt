@@ -1,8 +1,9 @@
 // Reading an input piece by piece.
 #![tactic(auto)]
 
-ghost use Rattle.std.specs.Prelude.{◌≤◌, length, IfOk};
-ghost use Rattle.input.specs.Piece.{IsWithin};
+ghost use Rattle.std.specs.Prelude.{◌<◌, ◌≤◌, length, take, IfOk};
+ghost use Rattle.std.specs.Io.KnownBytes.{Consumes, IsAtEnd};
+ghost use Rattle.input.specs.Input.{Gives, HoldsAll, Turned};
 
 use std::io;
 use std::io::{ErrorKind, Read};
@@ -16,7 +17,7 @@ pub enum Piece {
 }
 
 pub fn read_piece<R: Read>(from: &mut R, piece: &mut [u8]) -> io::Result<Piece>
-    ensures { IfOk result (IsWithin piece.new) }
+    ensures { IfOk result (Gives (R.remaining from.old) (R.remaining from.new) piece.new) }
 {
     match from.read(piece) {
         Ok(0) => Ok(Piece::Ended),
@@ -45,7 +46,10 @@ enum Turn {
 }
 
 // Reads one piece and puts it behind the bytes that are there.
-fn read_more<R: Read>(from: &mut R, buf: &mut [u8], len: usize) -> io::Result<Turn> {
+fn read_more<R: Read>(from: &mut R, buf: &mut [u8], len: usize) -> io::Result<Turn>
+    requires { len ≤ length buf.old }
+    ensures { IfOk result (Turned (R.remaining from.old) (R.remaining from.new) buf.old buf.new len) }
+{
     let mut piece = [0u8; 4096];
     match read_piece(from, &mut piece)? {
         Piece::Bytes(n) => {
@@ -62,7 +66,9 @@ fn read_more<R: Read>(from: &mut R, buf: &mut [u8], len: usize) -> io::Result<Tu
 
 // Reads the whole input, or as much as shows that it is too long. A proved loop has to end, and nothing says that the input does: so the
 // loop counts its turns, to a number that no run comes to.
-pub fn read_whole<R: Read>(from: &mut R, buf: &mut [u8]) -> io::Result<Whole> {
+pub fn read_whole<R: Read>(from: &mut R, buf: &mut [u8]) -> io::Result<Whole>
+    ensures { IfOk result (HoldsAll (R.remaining from.old) buf.new) }
+{
     let mut len = 0;
     for _ in 0..u64::MAX {
         match read_more(from, buf, len)? {
@@ -79,7 +85,9 @@ pub fn read_whole<R: Read>(from: &mut R, buf: &mut [u8]) -> io::Result<Whole> {
 
 // Reads until the buffer is full or the input ends, and answers how many bytes it put at the buffer's start.
 pub fn read_full<R: Read>(from: &mut R, buf: &mut [u8]) -> io::Result<usize>
-    ensures { IfOk result (λ n. n ≤ length buf.new) }
+    ensures in_bounds { IfOk result (λ n. n ≤ length buf.new) }
+    ensures bytes { IfOk result (λ n. Consumes (R.remaining from.old) (R.remaining from.new) (take n buf.new)) }
+    ensures end { IfOk result (λ n. n < length buf.new → IsAtEnd (R.remaining from.new)) }
 {
     let mut done = 0;
     for _ in 0..u64::MAX {
@@ -95,5 +103,5 @@ pub fn read_full<R: Read>(from: &mut R, buf: &mut [u8]) -> io::Result<usize>
             }
         }
     }
-    Ok(done)
+    Err(io::Error::other("the input does not end"))
 }
