@@ -1,5 +1,6 @@
 -- What one more piece leaves of the input and in the buffer.
-use Rattle.std.proofs.Common.{◌≡◌, ℕ, ◌+◌, ◌<◌, ◌≤◌, true, false, List, [], ◌++◌, length, take, drop, ap, sym, subst, ◌∙◌, append_assoc, arith}
+use Rattle.std.proofs.Common.{◌≡◌, ℕ, ◌+◌, ◌<◌, ◌≤◌, true, false}
+use Rattle.std.proofs.Common.{List, [], ◌++◌, length, take, drop, ap, sym, subst, ◌∙◌, append_assoc, arith}
 use borrow.Author.Tests.{leb-true, leb-false, not-true, not-false}
 use lib.Dec.{leb}
 use Rattle.std.proofs.Math.Seq.{take-append-add}
@@ -23,7 +24,11 @@ consumed (Some known) (Some left) None xs ys p q = absurd q
 consumed (Some known) (Some left) (Some cs) xs ys p q = p ∙ ap (λ l. xs ++ l) q ∙ sym (append_assoc xs ys cs)
 
 -- n of the bytes ys, put behind the first a of xs
-pub behind : (a n : ℕ) (xs ys rest : List ℕ) → a ≤ length xs → n ≤ length ys → take (a + n) (take a xs ++ (ys ++ rest)) ≡ take a xs ++ take n ys
+pub behind :
+    (a n : ℕ) (xs ys rest : List ℕ)
+    → a ≤ length xs
+    → n ≤ length ys
+    → take (a + n) (take a xs ++ (ys ++ rest)) ≡ take a xs ++ take n ys
 behind a n xs ys rest h g =
     ap (λ k. take (k + n) (take a xs ++ (ys ++ rest))) (sym (length-take-le a xs h))
     ∙ take-append-add (take a xs) (ys ++ rest) n
@@ -59,7 +64,11 @@ module _ (line part last : List ℕ) (len : ℕ) (r : Held) (k : Kept (record { 
 
 -- the last turn
 module _ (old mid new : Option (List ℕ)) (buf last : List ℕ) (len : ℕ) where
-  at_end : (n : ℕ) → Turned mid new buf last len (Over (AllBytes n)) → Consumes old mid (take len buf) → Consumes old (Some []) (take n last)
+  at_end :
+      (n : ℕ)
+      → Turned mid new buf last len (Over (AllBytes n))
+      → Consumes old mid (take len buf)
+      → Consumes old (Some []) (take n last)
   at_end n t p = end old mid new (subst (λ xs. Consumes old mid xs) same p) t.2 t.3
     where
       same : take len buf ≡ take n last
