@@ -111,7 +111,7 @@ fn other_word(case: &[u8], from: usize, count: usize, rest: u32, words: &[u32]) 
         if words[i] != want {
             return i;
         }
-        at = std::num::wrapping_add_usize(at, 4);
+        at = at.wrapping_add(4);
         i += 1;
     }
     i
@@ -140,7 +140,7 @@ fn compare_lent(case: &[u8], words: &mut [u32], table: &mut [u64; 6152]) -> Foun
     let rest = if number(case, FAULT) == 0 { BEFORE } else { 0 };
     let w = other_word(case, end, count, rest, words);
     if w < words.len() {
-        return Found::At(std::num::wrapping_add_usize(NUMBERS, w));
+        return Found::At(NUMBERS.wrapping_add(w));
     }
     Found::Nothing
 }

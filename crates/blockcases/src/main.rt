@@ -6,7 +6,8 @@
 mod case;
 
 use case::Found;
-use libc::{STDIN_FILENO, STDOUT_FILENO};
+use std::io;
+use std::io::Read;
 
 // More words than any block takes (`Tables` in crates/bounds/specs/Whole.antt).
 const LENT: usize = 28672;
@@ -26,7 +27,7 @@ struct Tally {
 }
 
 fn plus(a: u64, b: u64) -> u64 {
-    std::num::wrapping_add_u64(a, b)
+    a.wrapping_add(b)
 }
 
 // One more case that differs.
@@ -55,21 +56,26 @@ fn counted(t: Tally, case: &[u8], words: &mut [u32], table: &mut [u64; 6152]) ->
 }
 
 // Reads the next case, and answers how many bytes it has: 0 at the input's end, or where there is no room for it.
-fn read_case(case: &mut [u8]) -> usize {
+fn read_case<R: Read>(from: &mut R, case: &mut [u8]) -> io::Result<usize> {
     let mut head = [0u8; 4];
-    if io::read_full(STDIN_FILENO, &mut head) < 4 {
-        return 0;
+    if input::read_full(from, &mut head)? < 4 {
+        return Ok(0);
     }
     let n = case::number(&head, 0) as usize;
     if case.len() < n {
-        return 0;
+        return Ok(0);
     }
     let k = text::within(n, case);
-    io::read_full(STDIN_FILENO, &mut case[..k])
+    input::read_full(from, &mut case[..k])
 }
 
-// A proved loop has to end, and nothing says that the input does: so the loop counts its turns down, from a number that no run uses up.
-fn compare_all(case: &mut [u8], words: &mut [u32], table: &mut [u64; 6152]) -> Tally {
+// A proved loop has to end, and nothing says that the input does: so the loop counts its turns, to a number that no run comes to.
+fn compare_all<R: Read>(
+    from: &mut R,
+    case: &mut [u8],
+    words: &mut [u32],
+    table: &mut [u64; 6152],
+) -> io::Result<Tally> {
     let mut t = Tally {
         cases: 0,
         refused: 0,
@@ -78,35 +84,32 @@ fn compare_all(case: &mut [u8], words: &mut [u32], table: &mut [u64; 6152]) -> T
         case: 0,
         place: 0,
     };
-    let mut turns = u64::MAX;
-    while 0 < turns {
-        let n = text::within(read_case(case), case);
+    for _ in 0..u64::MAX {
+        let n = text::within(read_case(from, case)?, case);
         if n == 0 {
-            return t;
+            return Ok(t);
         }
         t = counted(t, &case[..n], words, table);
-        turns -= 1;
     }
-    t
+    Ok(t)
 }
 
-fn write_count(name: &[u8], n: u64) {
-    io::write_all(STDOUT_FILENO, name);
-    io::print_decimal(STDOUT_FILENO, n);
-    io::write_all(STDOUT_FILENO, b"\n");
+fn write_count(rt: &impl Print, name: &str, n: u64) -> io::Result<()> {
+    println!(rt; "{name} {n}")
 }
 
-fn main() {
+fn main(rt: HostRuntime) -> io::Result<()> {
     let mut case = [0u8; ROOM];
     let mut words = [0u32; LENT];
     let mut table = [0u64; 6152];
-    let t = compare_all(&mut case, &mut words, &mut table);
-    write_count(b"cases ", t.cases);
-    write_count(b"refused ", t.refused);
-    write_count(b"words ", t.words);
-    write_count(b"different ", t.different);
+    let t = compare_all(&mut rt.reader(), &mut case, &mut words, &mut table)?;
+    write_count(&rt, "cases", t.cases)?;
+    write_count(&rt, "refused", t.refused)?;
+    write_count(&rt, "words", t.words)?;
+    write_count(&rt, "different", t.different)?;
     if 0 < t.different {
-        write_count(b"first case ", t.case);
-        write_count(b"first place ", t.place as u64);
+        write_count(&rt, "first case", t.case)?;
+        write_count(&rt, "first place", t.place as u64)?;
     }
+    Ok(())
 }

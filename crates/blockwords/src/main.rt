@@ -7,7 +7,8 @@ ghost use Rattle.answers.specs.Contract.{Sited};
 ghost use Rattle.blockwords.specs.Text.{lent, answer_text};
 
 use input::Whole;
-use libc::STDOUT_FILENO;
+use std::io;
+use std::io::{Read, Write};
 use translation::{Sites, Translated};
 
 const LENT: usize = 16384;
@@ -45,23 +46,20 @@ fn put_translation(out: &mut [u8], bytes: &[u8]) -> usize
     }
 }
 
-fn put_answer(out: &mut [u8]) -> usize {
-    let mut record = io::buffer();
-    match input::read_whole(&mut record) {
+fn put_answer<R: Read>(from: &mut R, out: &mut [u8]) -> io::Result<usize> {
+    let mut record = [0u8; 4096];
+    match input::read_whole(from, &mut record)? {
         Whole::Bytes(n) => {
             let k = text::within(n, &record);
-            put_translation(out, &record[..k])
+            Ok(put_translation(out, &record[..k]))
         }
-        Whole::Long => listing::long(out),
-        Whole::Failed => 0,
+        Whole::Long => Ok(listing::long(out)),
     }
 }
 
-fn main() {
+fn main(rt: HostRuntime) -> io::Result<()> {
     let mut out = [0u8; ROOM];
-    let n = put_answer(&mut out);
+    let n = put_answer(&mut rt.reader(), &mut out)?;
     let k = text::within(n, &out);
-    if !io::write_all(STDOUT_FILENO, &out[..k]) {
-        os::fail(b"standard output");
-    }
+    io::writer(&rt).write_all(&out[..k])
 }

@@ -3,7 +3,8 @@ ghost use Rattle.std.specs.Prelude.{◌≤◌, length};
 
 use calls::Numbers;
 use constants::Sequence;
-use libc::STDOUT_FILENO;
+use std::io;
+use std::io::Write;
 use text::{Held, Number};
 
 // The words of a line behind its name, as numbers, or that they are none or too many.
@@ -74,21 +75,18 @@ fn put_answer(out: &mut [u8], s: Sequence) -> usize {
     }
 }
 
-fn write_answer(s: Sequence) {
+fn write_answer<W: Write>(to: &mut W, s: Sequence) -> io::Result<()> {
     let mut out = [0u8; 64];
     let n = put_answer(&mut out, s);
     let k = text::within(n, &out);
-    if !io::write_all(STDOUT_FILENO, &out[..k]) {
-        os::fail(b"standard output");
-    }
+    to.write_all(&out[..k])
 }
 
 // Writes the answer to a line that is held whole, or to one that was too long to be.
-pub fn answer(line: &[u8], held: Held) {
+pub fn answer<W: Write>(to: &mut W, line: &[u8], held: Held) -> io::Result<()> {
     if held.long {
-        write_answer(Sequence::Refused(calls::UNKNOWN));
-        return;
+        return write_answer(to, Sequence::Refused(calls::UNKNOWN));
     }
     let n = text::within(held.len, line);
-    write_answer(called(&line[..n]));
+    write_answer(to, called(&line[..n]))
 }

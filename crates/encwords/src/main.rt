@@ -5,6 +5,8 @@
 mod answer;
 
 use input::Piece;
+use std::io;
+use std::io::{Read, Write};
 use text::Held;
 
 // What a read of the input left: the line whose end is still to come, or the last one.
@@ -12,74 +14,78 @@ use text::Held;
 enum Turn {
     More(Held),
     Ended(Held),
-    Failed,
 }
 
 // Answers the lines that end in a piece of the input, and keeps the start of the next.
-fn answer_lines(piece: &[u8], line: &mut [u8], held: Held) -> Held {
+fn answer_lines<W: Write>(
+    to: &mut W,
+    piece: &[u8],
+    line: &mut [u8],
+    held: Held,
+) -> io::Result<Held> {
     let mut start = held;
     let mut at = 0;
     while at < piece.len() {
         let end = text::line_end(piece, at);
         start = text::keep(line, start, &piece[at..end]);
         if piece.len() <= end {
-            return start;
+            return Ok(start);
         }
-        answer::answer(line, start);
+        answer::answer(to, line, start)?;
         start = Held {
             len: 0,
             long: false,
         };
         at = end + 1;
     }
-    start
+    Ok(start)
 }
 
-fn read_some(line: &mut [u8], held: Held) -> Turn {
-    let mut piece = io::buffer();
-    match input::read_piece(&mut piece) {
+fn read_some<R: Read, W: Write>(
+    from: &mut R,
+    to: &mut W,
+    line: &mut [u8],
+    held: Held,
+) -> io::Result<Turn> {
+    let mut piece = [0u8; 4096];
+    match input::read_piece(from, &mut piece)? {
         Piece::Bytes(n) => {
             let k = text::within(n, &piece);
-            Turn::More(answer_lines(&piece[..k], line, held))
+            Ok(Turn::More(answer_lines(to, &piece[..k], line, held)?))
         }
-        Piece::Ended => Turn::Ended(held),
-        Piece::Failed => Turn::Failed,
+        Piece::Ended => Ok(Turn::Ended(held)),
     }
 }
 
 // The last line, if the input does not end with a line feed.
-fn answer_last(line: &[u8], held: Held) {
+fn answer_last<W: Write>(to: &mut W, line: &[u8], held: Held) -> io::Result<()> {
     let len = held.len;
     if 0 < len {
-        answer::answer(line, held);
+        return answer::answer(to, line, held);
     }
+    Ok(())
 }
 
-// A proved loop has to end, and nothing says that the input does: so the loop counts its turns down, from a number that no run uses up.
-fn answer_all(line: &mut [u8]) {
+// A proved loop has to end, and nothing says that the input does: so the loop counts its turns, to a number that no run comes to.
+fn answer_all<R: Read, W: Write>(from: &mut R, to: &mut W, line: &mut [u8]) -> io::Result<()> {
     let mut held = Held {
         len: 0,
         long: false,
     };
-    let mut turns = u64::MAX;
-    while 0 < turns {
-        match read_some(line, held) {
+    for _ in 0..u64::MAX {
+        match read_some(from, to, line, held)? {
             Turn::More(h) => {
                 held = h;
             }
             Turn::Ended(h) => {
-                answer_last(line, h);
-                return;
-            }
-            Turn::Failed => {
-                return;
+                return answer_last(to, line, h);
             }
         }
-        turns -= 1;
     }
+    Ok(())
 }
 
-fn main() {
-    let mut line = io::buffer();
-    answer_all(&mut line);
+fn main(rt: HostRuntime) -> io::Result<()> {
+    let mut line = [0u8; 4096];
+    answer_all(&mut rt.reader(), &mut io::writer(&rt), &mut line)
 }

@@ -4,7 +4,7 @@
 
 ghost use Rattle.std.specs.Prelude.{◌++◌, length};
 ghost use Rattle.text.specs.Put.{decimal, Placed};
-ghost use Rattle.listing.specs.Listing.{counts, site_line, site_if, site_lines, accepted as Listing·accepted, refused as Listing·refused, long as Listing·long};
+ghost use Rattle.listing.specs.Listing.{counts, site_line, site_if, site_lines, accepted, refused, long};
 
 // Bytes, and a number behind them.
 fn put_field(out: &mut [u8], at: usize, name: &[u8], n: u64) -> usize
@@ -55,7 +55,7 @@ pub fn accepted(
     positions: [u32; 2],
     targets: [u32; 2],
 ) -> usize
-    ensures { Placed (Listing·accepted words.now body count positions targets) out.old 0 out.new result }
+    ensures { Placed (accepted words.now body count positions targets) out.old 0 out.new result }
 {
     let a = put_counts(out, words.len(), body);
     let b = text::put_rows(out, a, words);
@@ -63,7 +63,7 @@ pub fn accepted(
 }
 
 pub fn refused(out: &mut [u8], number: u32, place: usize) -> usize
-    ensures { Placed (Listing·refused number place) out.old 0 out.new result }
+    ensures { Placed (refused number place) out.old 0 out.new result }
 {
     let a = put_field(out, 0, b"refused ", number as u64);
     let b = put_field(out, a, b" ", place as u64);
@@ -72,7 +72,7 @@ pub fn refused(out: &mut [u8], number: u32, place: usize) -> usize
 
 // Of a record of more than 4,096 bytes.
 pub fn long(out: &mut [u8]) -> usize
-    ensures { Placed Listing·long out.old 0 out.new result }
+    ensures { Placed long out.old 0 out.new result }
 {
     text::put_all(out, 0, b"long\n")
 }

@@ -19,7 +19,9 @@ module _ (words : List ℕ) (i : ℕ) where
       ∙ ap
       (λ (n : ℕ). (hex8 (get_or words i 0) ++ (separator_of i n ∷ [])) ++ rows (i + 1) (drop (suc i) words))
       (sym (ap length (drop-cons words i 0 h)) ∙ length-drop i words)
-      ∙ ap (λ (k : ℕ). (hex8 (get_or words i 0) ++ (separator_of i (length words - i) ∷ [])) ++ rows (i + 1) (drop k words)) (sym (add-one i))
+      ∙ ap
+      (λ (k : ℕ). (hex8 (get_or words i 0) ++ (separator_of i (length words - i) ∷ [])) ++ rows (i + 1) (drop k words))
+      (sym (add-one i))
 
   rows_done : length words ≤ i → rows i (drop i words) ≡ []
   unfolding rows

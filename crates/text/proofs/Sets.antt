@@ -4,7 +4,7 @@ use mathlib.Core.Path.{◌≡◌, refl, ap, ◌∙◌}
 use mathlib.Core.List.{List, [], ◌∷◌}
 use native.Mathlib.Numerals.{add-one}
 use native.Mathlib.Omega.{arith}
-use lib.ListN.{length, get_or, set, drop, drop_of_length-le, length-set}
+use lib.ListN.{length, get_or, set, drop, drop_of_length-le}
 use lib.Seq.{sets, set_out, drop-cons}
 
 pub past : (xs out : List ℕ) (j : ℕ) → length out ≤ j → sets out j xs ≡ out

@@ -16,6 +16,7 @@ const PLUS: u8 = 43;
 const HALF: u64 = 9223372036854775808;
 
 // A digit's value, `a` to `f` in either case; 16 of any other byte.
+#[tactic(auto, unfolding(crate::specs::Number::digit_of))]
 fn digit(b: u8) -> u64
     ensures { result ≡ digit_of b }
 {
@@ -78,6 +79,7 @@ fn behind_plus(s: &[u8], from: usize, base: u64, limit: u64) -> Number
     digits(s, from, base, limit)
 }
 
+#[tactic(auto, unfolding(crate::specs::Number::negated))]
 fn negative(n: Number) -> Number
     ensures { result ≡ negated n }
 {

@@ -6,8 +6,8 @@ ghost use Rattle.text.specs.Put.{Ahead, hex8, decimal, Kept, separator_of, rows,
 
 // Puts bytes at `at`, as far as there is room.
 pub fn put_all(out: &mut [u8], at: usize, bytes: &[u8]) -> usize
-    ensures out_after { out.new ≡ sets out.old at bytes.now }
-    ensures ahead { Ahead at (length bytes.now) (length out.old) result }
+    ensures written { out.new ≡ sets out.old at bytes.now }
+    ensures end { Ahead at (length bytes.now) (length out.old) result }
 {
     let mut j = at;
     let mut i = 0;
@@ -24,8 +24,8 @@ pub fn put_all(out: &mut [u8], at: usize, bytes: &[u8]) -> usize
 
 // Puts a word as eight hexadecimal digits.
 pub fn put_hex8(out: &mut [u8], at: usize, w: u32) -> usize
-    ensures out_after { out.new ≡ sets out.old at (hex8 w) }
-    ensures ahead { Ahead at 8 (length out.old) result }
+    ensures written { out.new ≡ sets out.old at (hex8 w) }
+    ensures end { Ahead at 8 (length out.old) result }
 {
     let mut text = [0u8; 16];
     let k = io::hex(w as u64, 8, &mut text);
@@ -43,7 +43,7 @@ pub fn put_decimal(out: &mut [u8], at: usize, n: u64) -> usize
 
 // n, or the buffer's length where that is less: a number of bytes that `&buf[..n]` can take.
 pub fn within(n: usize, buf: &[u8]) -> usize
-    ensures prefix_len { IsPrefixLen result buf.now }
+    ensures in_bounds { IsPrefixLen result buf.now }
     ensures value { result ≡ min n (length buf.now) }
 {
     if n < buf.len() { n } else { buf.len() }
@@ -51,7 +51,7 @@ pub fn within(n: usize, buf: &[u8]) -> usize
 
 // The same of words.
 pub fn among(n: usize, words: &[u32]) -> usize
-    ensures prefix_len { IsPrefixLen result words.now }
+    ensures in_bounds { IsPrefixLen result words.now }
     ensures value { result ≡ min n (length words.now) }
 {
     if n < words.len() { n } else { words.len() }
@@ -86,6 +86,7 @@ pub fn keep(line: &mut [u8], held: Held, part: &[u8]) -> Held
 }
 
 // What stands behind the word at position `i`: a line feed behind the fifth of a line and behind the last, a blank behind any other.
+#[tactic(auto, unfolding(crate::specs::Put::separator_of))]
 fn separator(i: usize, left: usize) -> u8
     ensures { result ≡ separator_of i left }
 {

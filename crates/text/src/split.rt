@@ -64,8 +64,8 @@ pub fn line_end(s: &[u8], at: usize) -> usize
 
 // The first word from `at` on. Where there is none, it is empty and stands at the end.
 pub fn word_at(s: &[u8], at: usize) -> Span
-    ensures within { Within Other s.now at result.from }
-    ensures within_2 { Within Blank s.now result.from result.to }
+    ensures from { Within Other s.now at result.from }
+    ensures to { Within Blank s.now result.from result.to }
 {
     let from = first(Stop::Other, s, at);
     let to = first(Stop::Blank, s, from);
@@ -83,7 +83,7 @@ pub fn place(list: &[u8], word: &[u8]) -> usize {
         if from == to {
             return n;
         }
-        if check::same(&list[from..to], word) {
+        if &list[from..to] == word {
             return n;
         }
         at = to;
