@@ -17,9 +17,6 @@ module _ (blk : Block) (all : List Step) (ws t : List ℕ) (q : Lowered) where
   abbrev pub Left : List Step → (ws₁ t₁ : List ℕ) → Lowered → Type 0
   Left ss ws₁ t₁ r = (ws₂ t₂ : List ℕ) (v : Lowered) → Lowers blk ss ws₁ t₁ r ws₂ t₂ v → Lowers blk all ws t q ws₂ t₂ v
 
-  pub all_left : {ss : List Step} → ss ≡ all → Left ss ws t q
-  all_left e ws₂ t₂ v h = same e h
-
   module _ {ss : List Step} {ws₁ t₁ : List ℕ} {r : Lowered} where
     pub none_left : ss ≡ [] → Left ss ws₁ t₁ r → Lowers blk all ws t q ws₁ t₁ r
     none_left e l = l ws₁ t₁ r (same (sym e) (none_lowers blk ws₁ t₁ r))

@@ -17,9 +17,6 @@ abbrev pub digit : ℕ → ℕ
 digit m = 1 * 2 ^ count_trailing_zeros 16 m % 2 ^ 16
 
 module _ (m : ℕ) (p : 0 < m) (h : m < 65536) where
-  pub lowest_lt : count_trailing_zeros 16 m < 16
-  lowest_lt = (lowest 16 m p h).0
-
   lowest_le : 2 ^ count_trailing_zeros 16 m ≤ m
   lowest_le = (lowest 16 m p h).1
 

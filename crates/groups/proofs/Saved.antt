@@ -1,35 +1,11 @@
 -- The registers that n names: so many from the lowest on, pushed from the highest down and popped from the lowest up.
-use mathlib.Core.Path.{◌≡◌, refl, ap, ap₂, ◌∙◌}
-use mathlib.Core.Bool.{Bool, true, false, cond}
+use mathlib.Core.Path.{◌≡◌, ap, ◌∙◌}
+use mathlib.Core.Bool.{false}
 use mathlib.Core.List.{List, [], ◌∷◌, ◌++◌, reverse, reverse_aux}
 use Prim.Native.Nat.{ℕ, zero, suc, ◌+◌, ◌-◌, ◌<◌, ◌≤◌}
 use native.Mathlib.Omega.{arith}
-use borrow.Author.Tests.{ltb-true, ltb-false}
-use lib.Dec.{ltb}
-use Rattle.block.specs.Block.{up_from, saved}
+use Rattle.block.specs.Block.{up_from}
 use Rattle.lowering.specs.Steps.{Step, push, pop, push_all, pop_all}
-
--- ---- the lowest, and how many
-abbrev pub lowest_of : ℕ → ℕ
-lowest_of n = cond (ltb n 4) n 4
-
-abbrev pub count_of : ℕ → ℕ
-count_of n = cond (ltb n 4) (4 - n) (n - 3)
-
-module _ (n low count : ℕ) (e : low ≡ lowest_of n) (f : count ≡ count_of n) where
-  pub saved_is : up_from low count ≡ saved n
-  saved_is = ap₂ up_from e f ∙ by (ltb n 4)
-    where
-      by : (u : Bool) → up_from (cond u n 4) (cond u (4 - n) (n - 3)) ≡ cond u (up_from n (4 - n)) (up_from 4 (n - 3))
-      by true = refl
-      by false = refl
-
-  pub saved-bytes : n < 256 → low + count ≤ 256
-  saved-bytes h = by (ltb n 4) refl e f
-    where
-      by : (u : Bool) → ltb n 4 ≡ u → low ≡ cond u n 4 → count ≡ cond u (4 - n) (n - 3) → low + count ≤ 256
-      by true t a b = let l : n < 4 = ltb-true n 4 t in omega arith
-      by false t a b = let l : 4 ≤ n = ltb-false n 4 t in omega arith
 
 -- ---- from the highest down, the last is the first
 down_aux : (r k : ℕ) (ys : List ℕ) → reverse_aux (up_from r (suc k)) ys ≡ (r + k) ∷ reverse_aux (up_from r k) ys
@@ -55,12 +31,6 @@ module _ (i low : ℕ) where
 module _ (i low count : ℕ) where
   abbrev pub pops_from : ℕ → List Step
   pops_from d = pop_all i (up_from (low + d) (count - d))
-
-  pub all_pops : pops_from 0 ≡ pop_all i (up_from low count)
-  all_pops =
-      let a : low + 0 ≡ low = omega arith in
-      let n : count - 0 ≡ count = omega arith in
-      ap₂ (λ m k. pop_all i (up_from m k)) a n
 
   pub no_pop : (d : ℕ) → count ≤ d → pops_from d ≡ []
   unfolding pop_all up_from

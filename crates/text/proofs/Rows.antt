@@ -1,6 +1,6 @@
 -- A listing, word by word.
 use Prim.Native.Nat.{ℕ, suc, ◌+◌, ◌-◌, ◌≤◌, ◌<◌}
-use mathlib.Core.Path.{◌≡◌, refl, ap, sym, ◌∙◌}
+use mathlib.Core.Path.{◌≡◌, ap, sym, ◌∙◌}
 use mathlib.Core.List.{List, [], ◌∷◌, ◌++◌}
 use native.Mathlib.Numerals.{add-one}
 use native.Mathlib.Omega.{arith}
@@ -32,9 +32,6 @@ pub record Left (words out₀ : List ℕ) (at : ℕ) (out : List ℕ) (end i : �
   pub same : length out ≡ length out₀
   pub inside : i ≤ length words
   pub rest : (last : List ℕ) (r : ℕ) → Placed (rows i (drop i words)) out end last r → Placed (rows 0 words) out₀ at last r
-
-pub begun : (words out : List ℕ) (at : ℕ) → Left words out at out at 0
-begun words out at = record { same = refl; inside = omega arith; rest = λ last r p. p }
 
 module _ (words out₀ : List ℕ) (at : ℕ) (out : List ℕ) (end i : ℕ) (l : Left words out₀ at out end i) where
   pub step :

@@ -8,7 +8,7 @@ pub returns-in-None-clause-placed : goal.returns-in-None-clause-placed
 unfolding answer_text lent
 returns-in-None-clause-placed c =
     let t = c.translate.ensures in
-    (none_text _ _ _ _ _ _ _ t.result_value t.words_after _ _ _ _ c.in-Accepted.is c.among-k.ensures.value c.in-None.is
+    (none_text _ _ _ _ _ _ _ t.answer t.words_after _ _ _ _ c.in-Accepted.is c.among-k.ensures.value c.in-None.is
     c.accepted.ensures).0
 
 pub returns-in-None-clause-sited : goal.returns-in-None-clause-sited
@@ -18,7 +18,7 @@ pub returns-in-One-clause-placed : goal.returns-in-One-clause-placed
 unfolding answer_text lent
 returns-in-One-clause-placed c =
     let t = c.translate.ensures in
-    (one_text _ _ _ _ _ _ _ t.result_value t.words_after _ _ _ _ c.in-Accepted.is c.among-k.ensures.value _ c.in-One.is
+    (one_text _ _ _ _ _ _ _ t.answer t.words_after _ _ _ _ c.in-Accepted.is c.among-k.ensures.value _ c.in-One.is
     c.accepted-in-One.ensures).0
 
 pub returns-in-One-clause-sited : goal.returns-in-One-clause-sited
@@ -28,7 +28,7 @@ pub returns-in-Two-clause-placed : goal.returns-in-Two-clause-placed
 unfolding answer_text lent
 returns-in-Two-clause-placed c =
     let t = c.translate.ensures in
-    (two_text _ _ _ _ _ _ _ t.result_value t.words_after _ _ _ _ c.in-Accepted.is c.among-k.ensures.value _ _ c.in-Two.is
+    (two_text _ _ _ _ _ _ _ t.answer t.words_after _ _ _ _ c.in-Accepted.is c.among-k.ensures.value _ _ c.in-Two.is
     c.accepted-in-Two.ensures).0
 
 pub returns-in-Two-clause-sited : goal.returns-in-Two-clause-sited
@@ -38,7 +38,7 @@ pub returns-in-Refused-clause-placed : goal.returns-in-Refused-clause-placed
 unfolding answer_text lent
 returns-in-Refused-clause-placed c =
     let t = c.translate.ensures in
-    (refused-text _ _ _ _ _ _ _ t.result_value t.words_after _ _ c.in-Refused.is c.refused.ensures).0
+    (refused-text _ _ _ _ _ _ _ t.answer t.words_after _ _ c.in-Refused.is c.refused.ensures).0
 
 pub returns-in-Refused-clause-sited : goal.returns-in-Refused-clause-sited
 returns-in-Refused-clause-sited c = sited-told c.args.bytes.now lent

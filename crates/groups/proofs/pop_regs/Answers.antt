@@ -1,6 +1,5 @@
 -- So many of the registers are done.
 use mathlib.Core.Path.{◌∙◌}
-use Prim.Native.Nat.{◌-◌}
 use Rattle.groups.proofs.Loop.{none_left, less_left}
 use Rattle.groups.proofs.Saved.{a_pop, no_pop}
 use Rattle.groups.proofs.pop_regs.Goals as goal

@@ -1,6 +1,5 @@
 -- So many of the registers are left.
 use mathlib.Core.Path.{◌∙◌}
-use Prim.Native.Nat.{◌-◌}
 use native.Mathlib.Omega.{arith}
 use Rattle.groups.proofs.Loop.{none_left, less_left}
 use Rattle.groups.proofs.Saved.{a_push, no_push}

@@ -1,7 +1,7 @@
 -- So many of the registers are left.
 use mathlib.Core.Path.{◌≡◌}
 use mathlib.Core.List.{reverse}
-use Prim.Native.Nat.{◌≤◌, ◌+◌, ◌-◌}
+use Prim.Native.Nat.{◌≤◌, ◌+◌}
 use lib.ListN.{length}
 use Rattle.block.specs.Block.{up_from, saved}
 use Rattle.lowering.specs.Given.{given}
