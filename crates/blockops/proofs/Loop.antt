@@ -1,5 +1,5 @@
 -- An operation, and the loop: what is done so far, lowered.
-use Rattle.std.proofs.Common.{◌≡◌, ℕ, zero, suc, ◌+◌, ◌<◌, ◌≤◌, Bool, true, false, List, [], ◌∷◌, ◌++◌, map, length, get_or, take, drop, sym, refl, ap, ◌∙◌, subst, append_assoc, append-nil, add-one, arith, drop_of_length-le, take_all, drop-cons, take-suc}
+use Rattle.std.proofs.Common.{◌≡◌, ℕ, zero, suc, ◌+◌, ◌<◌, ◌≤◌, Bool, true, false, List, [], ◌∷◌, ◌++◌, map, length, get_or, take, drop, sym, refl, ap, ◌∙◌, subst, append-nil, add-one, arith, drop_of_length-le, drop-cons}
 use Rattle.block.specs.declared.BOp.{BOp}
 use Rattle.block.specs.declared.Block.{Block}
 use Rattle.block.specs.Block.{ops_of, may_jump, uses_bus}
@@ -11,7 +11,7 @@ use Rattle.stepping.proofs.Steps.{given-steps}
 use Rattle.lowering.specs.Given.{given}
 use Rattle.lowering.specs.Steps.{Step as Meant, lowered, behind, op_steps, ops_steps}
 use Rattle.lower.specs.declared.Lowered.{Lowered}
-use Rattle.lower.specs.Lowers.{ats_of, targets_of, kept, Lowers}
+use Rattle.lower.specs.Lowers.{ats_of, kept, Lowers}
 use Rattle.lower.proofs.Laws.{then_lowers}
 
 -- an array of structs has as many elements as the array of their values

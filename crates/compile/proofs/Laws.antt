@@ -9,8 +9,8 @@ use Rattle.block.specs.declared.Guard.{Guard}
 use Rattle.block.specs.declared.Block.{Block}
 use Rattle.block.specs.Block.{ops_of, in_flash}
 use Rattle.block.specs.Checked.{Checked}
-use Rattle.code.specs.Items.{pick, new, bind}
-use Rattle.code.specs.Tree.{top, Code, code, ◌then◌, nowhere}
+use Rattle.code.specs.Items.{pick, bind}
+use Rattle.code.specs.Tree.{top, Code, code, nowhere}
 use Rattle.code.specs.Walk.{walked_words, OneWalk}
 use Rattle.code.proofs.Walk.{walked-length, one_walk}
 use Rattle.lowering.specs.Cache.{empty_cache}
@@ -19,11 +19,10 @@ use Rattle.lowering.specs.Steps.{Step, ops_steps, guard_steps, block_steps}
 use Rattle.lowering.specs.Compile.{block_code, block_lines, block_words, starts, targets}
 use Rattle.asm.specs.declared.Asm.{Asm}
 use Rattle.asm.specs.declared.Made.{Made}
-use Rattle.asm.specs.State.{fixup_room, table_room, State, state, begin, made, put}
+use Rattle.asm.specs.State.{fixup_room, table_room, state, begin, made, put}
 use Rattle.asm.proofs.Laws.{new-put}
 use Rattle.emission.specs.Total.{emitted, after_t, starts_t}
 use Rattle.emission.proofs.After.{code-after, then-after, then-starts}
-use Rattle.bounds.specs.Whole.{Sited}
 use Rattle.bounds.proofs.Sites.{sited}
 use Rattle.finish.specs.Finish.{finished, finished_words}
 use Rattle.finish.specs.Whole.{laid, told}

@@ -1,5 +1,5 @@
 -- So far i operations are lowered: those left, lowered from here, are all of them from the start.
-use Rattle.std.proofs.Common.{◌-◌, ◌∙◌, arith, get_or-take}
+use Rattle.std.proofs.Common.{◌∙◌, arith, get_or-take}
 use Rattle.blockops.proofs.Loop.{take-inside, take-few, take_less, end_left, jump_left, next-left}
 use Rattle.blockops.proofs.emit_ops.Goals as goal
 
