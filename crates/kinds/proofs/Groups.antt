@@ -5,9 +5,9 @@
 -- Assumes nothing.
 use mathlib.Core.Path.{◌≡◌, refl, ap, subst}
 use mathlib.Core.Bool.{Bool, true, false}
-use mathlib.Core.Option.{Option, none, some}
+use mathlib.Core.Option.{none, some}
 use mathlib.Core.List.{List, [], ◌∷◌, ◌++◌, append-nil, reverse}
-use Prim.Native.Nat.{ℕ, suc, ◌+◌, ◌*◌, ◌^◌, ◌<◌, ◌≤◌}
+use Prim.Native.Nat.{ℕ, suc, ◌+◌, ◌^◌, ◌<◌, ◌≤◌}
 use native.Mathlib.Omega.{arith}
 use Rattle.block.specs.declared.Base.{Base}
 use Rattle.block.specs.declared.Base.TheVariants.{Reg, Sp}
@@ -23,7 +23,7 @@ use Rattle.card.specs.Step.{pop, push_all, pop_all, ind_brk, op_step}
 use Rattle.lowering.specs.Instrs.{KEEP, mov}
 use Rattle.lowering.specs.Steps.{Step, rets, move_words, move_base, lowered}
 use Rattle.lowering.specs.Steps.{move_offset, pop as pop_steps, push_all as push_all_steps, pop_all as pop_all_steps}
-use Rattle.relation.specs.Abs.{Abs, upd, kill, mstep, mrun, with_temp, with_card}
+use Rattle.relation.specs.Abs.{Abs, upd, mstep, mrun, with_temp}
 use Rattle.relation.specs.Relation.{Small}
 use Rattle.kinds.specs.Agrees.{Agrees}
 use Rattle.kinds.proofs.Kind.{kind, with0}
