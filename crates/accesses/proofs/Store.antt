@@ -358,20 +358,24 @@ module _ {b : Block} {h : Helpers} {s0 : State} (B : Body b h s0) (C : Checked b
     asked-meets g [] e = tt
     asked-meets g (o ∷ os) e = frag_pre start (frag_block (frag_then (block_here g) (slow_frag o os e)))
 
-    cases : (u : Bool) → unaligned_store words_tested w p ≡ u → (x : Bool) → leb at lim ≡ x → (y : Bool) → holds_code b.memory at a.c ≡ y
-        → Meets h base b s0 rc a {n = n} (store b rc w alone i) rc
-        (if_got (cond (not u && x && not y) (got 0 (set_ram put a.c))
-        (ask (card_write p (bytes w) (plus a.c.done i) v) a.c.outcomes a.c)) (λ u c. go (stored c)))
-    cases true q x r y z = asked-meets (miss_align q) a.c.outcomes refl
-    cases false q false r y z = asked-meets (miss_range q (leb-false at lim r)) a.c.outcomes refl
-    cases false q true r true z = asked-meets (miss_map q (leb-true at lim r) z) a.c.outcomes refl
-    cases false q true r false z = direct_frag (hit q (leb-true at lim r) z)
-
   pub store_ok : Meets h base b s0 rc a {n = n} (step_code b rc (Step.store w alone i)) (step_cache rc (Step.store w alone i))
       (mstep b (bytes_of s0.mem xip) limit (Step.store w alone i) a)
   unfolding step_code step_cache mstep card_store direct
   store_ok = by (a.t 0) refl (a.t 1) refl
     where
+      cases : (p v : ℕ) (k : a.t 0 ≡ some p) (k₁ : a.t 1 ≡ some v)
+          → (u : Bool) → unaligned_store (words_tested p v k k₁) w p ≡ u → (x : Bool) → leb (at p v k k₁) (lim p v k k₁) ≡ x
+          → (y : Bool) → holds_code b.memory (at p v k k₁) a.c ≡ y
+          → Meets h base b s0 rc a {n = n} (store b rc w alone i) rc
+          (if_got (cond (not u && x && not y) (got 0 (set_ram (put p v k k₁) a.c))
+          (ask (card_write p (bytes w) (plus a.c.done i) v) a.c.outcomes a.c)) (λ u c. go (stored p v k k₁ c)))
+      cases p v k k₁ true e x r y z = asked-meets p v k k₁ (miss_align p v k k₁ e) a.c.outcomes refl
+      cases p v k k₁ false e false r y z =
+          asked-meets p v k k₁ (miss_range p v k k₁ e (leb-false (at p v k k₁) (lim p v k k₁) r)) a.c.outcomes refl
+      cases p v k k₁ false e true r true z =
+          asked-meets p v k k₁ (miss_map p v k k₁ e (leb-true (at p v k k₁) (lim p v k k₁) r) z) a.c.outcomes refl
+      cases p v k k₁ false e true r false z = direct_frag p v k k₁ (hit p v k k₁ e (leb-true (at p v k k₁) (lim p v k k₁) r) z)
+
       by : (o : Option ℕ) → a.t 0 ≡ o → (o' : Option ℕ) → a.t 1 ≡ o'
           → Meets h base b s0 rc a {n = n} (store b rc w alone i) rc
           (known o (λ p. known o' (λ v. if_got (card_store b.memory i w alone p v a.c)

@@ -64,23 +64,6 @@ module _ {b : Block} {h : Helpers} {s0 : State} (B : Body b h s0) (C : Checked b
             missed = tt;
           })
 
-  -- the hold mark of a glued pair
-  hold_frag : (rc : RegCache) (a : Abs) (glue : Bool) → Frag (arm h base) {n = n} (code (hold b rc glue)) (Sim b s0 rc a)
-      (Sim b s0 rc (with_card (set_hold (cond glue 1 a.c.hold) a.c) (cond glue (with_temp 9 (some 1) a) a)))
-  unfolding hold cls
-  hold_frag rc a false = frag_map frag_nil (λ s w. record { kept = w.kept; slots = w.slots; cached = w.cached; temps = w.temps; flags = w.flags; done_is = w.done_is })
-  hold_frag rc a true = frag_append (mov32-sim h base a 9 1 refl (omega arith))
-      (frag-one (str 9 CPU b.layout.hold) (λ s. bare (wrote processor b.layout.hold 4 (R X s 9) s))
-      (λ s w. str-now B w.kept CPU processor b.layout.hold refl B.x19 (omega arith) 9 refl C.layout.hold.aligned B.hold_in)
-      (λ s w. sim_at (record {
-        kept = kept-hold B w.kept C (R X s 9) 1 (W_of_X s 9 ∙ w.temps 9 1 refl (upd_same a.t 9 (some 1)));
-        slots = w.slots;
-        cached = cached-card (cached-apart w.cached b.layout.hold (R X s 9) (omega (arith, count-now B w.kept)) C.layout.regs-hold) (set_hold 1 a.c) refl;
-        temps = w.temps;
-        flags = w.flags;
-        done_is = w.done_is;
-      }) 0 0))
-
 -- ---- the steps
 module _ {b : Block} {h : Helpers} {s0 : State} (B : Body b h s0) (C : Checked b) (base : ℕ) (n : Depth) (flash : List ℕ) (rc : RegCache) (a : Abs) where
   -- w9 is the break word
@@ -95,12 +78,32 @@ module _ {b : Block} {h : Helpers} {s0 : State} (B : Body b h s0) (C : Checked b
 
   pub check_brk-meets : (lim : ℕ) (glue : Bool) (pc count : ℕ) → StepFits (Step.check_brk glue pc count)
       → Meets h base b s0 rc a {n = n} (step_code b rc (Step.check_brk glue pc count)) (step_cache rc (Step.check_brk glue pc count)) (mstep b flash lim (Step.check_brk glue pc count) a)
-  unfolding StepFits step_code step_cache mstep check_brk taken
+  unfolding StepFits step_code step_cache mstep check_brk taken hold cls
   check_brk-meets lim glue pc count f = test (eqb a.c.brk 0)
       (λ e. rw e (frag_caught (goes_then brk_frag (goes-front (goes_map (goes_to (cb W is_zero 9) inner (λ s w. asks s ∙ ap IsZero w.1 ∙ e)) (λ s w. w.0))))))
       (λ e. rw e (exits_outs_exits (exits-block (exits-then brk_frag (exits-then (frag_stays (cb W is_zero 9) inner (λ s w. asks s ∙ ap IsZero w.1 ∙ e))
-      (exits-then (frag_pre (λ s w. w.0) (hold_frag B C base rc (with_temp 9 none a) glue)) (exit_imm-exits B C base rc marked pc count 0 f.0)))))))
+      (exits-then (frag_pre (λ s w. w.0) (hold_frag (with_temp 9 none a) glue)) (exit_imm-exits B C base rc marked pc count 0 f.0)))))))
     where
+      -- the hold mark of a glued pair
+      hold_frag : (a : Abs) (glue : Bool) → Frag (arm h base) {n = under n} (code (hold b rc glue)) (Sim b s0 rc a)
+          (Sim b s0 rc (with_card (set_hold (cond glue 1 a.c.hold) a.c) (cond glue (with_temp 9 (some 1) a) a)))
+      hold_frag a false =
+          frag_map frag_nil
+          (λ s w. record { kept = w.kept; slots = w.slots; cached = w.cached; temps = w.temps; flags = w.flags; done_is = w.done_is })
+      hold_frag a true = frag_append (mov32-sim h base a 9 1 refl (omega arith))
+          (frag-one (str 9 CPU b.layout.hold) (λ s. bare (wrote processor b.layout.hold 4 (R X s 9) s))
+          (λ s w. str-now B w.kept CPU processor b.layout.hold refl B.x19 (omega arith) 9 refl C.layout.hold.aligned B.hold_in)
+          (λ s w. sim_at (record {
+            kept = kept-hold B w.kept C (R X s 9) 1 (W_of_X s 9 ∙ w.temps 9 1 refl (upd_same a.t 9 (some 1)));
+            slots = w.slots;
+            cached = cached-card
+                (cached-apart w.cached b.layout.hold (R X s 9) (omega (arith, count-now B w.kept)) C.layout.regs-hold)
+                (set_hold 1 a.c) refl;
+            temps = w.temps;
+            flags = w.flags;
+            done_is = w.done_is;
+          }) 0 0))
+
       marked : Abs
       marked = with_card (set_hold (cond glue 1 a.c.hold) a.c) (cond glue (with_temp 9 (some 1) (with_temp 9 none a)) (with_temp 9 none a))
 

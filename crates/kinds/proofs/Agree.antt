@@ -29,8 +29,8 @@ use Rattle.kinds.specs.Agrees.{Agrees}
 use Rattle.kinds.proofs.Kind.{kind}
 use Rattle.kinds.proofs.Kind.{nop, mov_i, mov, add_ri, shl_i, sar_i, alu3, alu3_i, alu2, alu2_i, a4, ext-kind, min_max-kind, un-kind}
 use Rattle.kinds.proofs.Kind.{div-kind, mov2, mov2_i, bit_ext-kind, bit_ins-kind, sp_add, r_from_sp}
-use Rattle.kinds.proofs.Bus.{ld, st, ld_idx, st_idx, ld_post, st_post, rmw-kind, push_ret, pop_rets}
-use Rattle.kinds.proofs.Groups.{block_move, push_rets, pop_pc, ld_pair, st_pair}
+use Rattle.kinds.proofs.Bus.{ld, st, ld_idx, st_idx, ld_post, st_post, rmw-kind, push_ret}
+use Rattle.kinds.proofs.Groups.{block_move, pop_rets, push_rets, pop_pc, ld_pair, st_pair}
 use Rattle.kinds.proofs.Forms.{ld_pre, st_pre, ld_post_r, mem_a4, tb}
 use Rattle.kinds.proofs.Jumps.{br_i, br_r, dec_br, bit_br, goto-kind, call-kind, rts, goto_r, call_r, pop_ret}
 

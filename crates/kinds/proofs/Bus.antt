@@ -22,13 +22,13 @@ use Rattle.block.specs.declared.Base.TheVariants.{Reg, Sp}
 use Rattle.block.specs.declared.Width.{Width}
 use Rattle.block.specs.declared.Width.TheVariants.{Byte as B8, Half as B16, Word as B32}
 use Rattle.block.specs.declared.Fast.{Fast}
-use Rattle.block.specs.declared.Fast.TheVariants.{Ld, St, LdIdx, StIdx, LdPost, StPost, Rmw, PushRet, PopRets}
+use Rattle.block.specs.declared.Fast.TheVariants.{Ld, St, LdIdx, StIdx, LdPost, StPost, Rmw, PushRet}
 use Rattle.block.specs.declared.Memory.{Memory}
 use Rattle.block.specs.declared.Block.{Block}
 use Rattle.block.specs.Block.{bytes}
 use Rattle.machine.specs.Execute.{add_sub, shifted}
 use Rattle.card.specs.Word.{plus, minus, shl}
-use Rattle.card.specs.Card.{Card, reg, set_sp, set_rets, add_sp, Outcome, Request, read}
+use Rattle.card.specs.Card.{Card, reg, set_sp, add_sp, Outcome, Request, read}
 use Rattle.card.specs.Memory.{Access, got, unmet, load, store, read_le, extend, extended, ask, inside, load_offset}
 use Rattle.card.specs.Step.{After, on, with_loaded, with_stored, modify, push, pop, op_step}
 use Rattle.lowering.specs.Instrs.{KEEP, add_i, mov, orr, and, eor, add, sub}
@@ -232,10 +232,6 @@ module _ (b : Block) (flash : List ℕ) (limit i : ℕ) where
     pub push_ret : k PushRet
     unfolding kind op_step lowered mstep
     push_ret = push_agrees true (Step.ld_field rets 1) (λ c. c.rets) (λ a₁. refl) (λ c. on c) [] on_agrees a
-
-    pub pop_rets : k PopRets
-    unfolding kind op_step lowered mstep upd
-    pop_rets = pop_agrees (Step.st_field rets 0) set_rets (λ t v c. refl) (λ c. on c) [] on_agrees a
 
     address_lt : (r off : ℕ) → plus (reg a.c r) off < 2 ^ 32
     address_lt r off = mod-lt (reg a.c r + off) (omega arith)

@@ -3,6 +3,7 @@ pub mod Conditions
 pub mod Kind
 pub mod Bus
 pub mod Jumps
+pub mod Words
 pub mod Groups
 pub mod Forms
 pub mod Agree
