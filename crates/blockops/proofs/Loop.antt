@@ -1,5 +1,5 @@
 -- An operation, and the loop: what is done so far, lowered.
-use Rattle.std.proofs.Common.{◌≡◌, ℕ, zero, suc, ◌+◌, ◌<◌, ◌≤◌, Bool, true, false, List, [], ◌∷◌, ◌++◌, map, length, get_or, take, drop, sym, refl, ap, ◌∙◌, subst, append-nil, add-one, arith, drop_of_length-le, drop-cons}
+use Rattle.std.proofs.Common.{◌≡◌, ℕ, zero, suc, ◌+◌, ◌<◌, ◌≤◌, Bool, true, false, List, [], ◌∷◌, ◌++◌, length, get_or, take, drop, sym, ap, ◌∙◌, subst, append-nil, add-one, arith, drop_of_length-le, drop-cons}
 use Rattle.block.specs.declared.BOp.{BOp}
 use Rattle.block.specs.declared.Block.{Block}
 use Rattle.block.specs.Block.{ops_of, may_jump, uses_bus}
@@ -13,14 +13,6 @@ use Rattle.lowering.specs.Steps.{Step as Meant, lowered, behind, op_steps, ops_s
 use Rattle.lower.specs.declared.Lowered.{Lowered}
 use Rattle.lower.specs.Lowers.{ats_of, kept, Lowers}
 use Rattle.lower.proofs.Laws.{then_lowers}
-
--- an array of structs has as many elements as the array of their values
-pub length-mapped : (X Y : Type 0) (f : X → Y) (l : List X) (n : ℕ) → length (map f l) ≡ n → length l ≡ n
-length-mapped X Y f l n p = sym (mapped f l) ∙ p
-  where
-    mapped : (f : X → Y) (l : List X) → length (map f l) ≡ length l
-    mapped f [] = refl
-    mapped f (x ∷ l) = ap suc (mapped f l)
 
 -- ---- an operation, and the break check
 module _ (blk : Block) (o : BOp) (i next : ℕ) (u : Bool) (e : u ≡ uses_bus o.fast) (ws t ws₁ t₁ : List ℕ) (q r : Lowered) (h : Lowers blk (lowered o.fast i next) ws t q ws₁ t₁ r) where
@@ -64,9 +56,6 @@ module _ (b : Block) (ws t : List ℕ) (q : Lowered) where
 
   abbrev pub Left : (i pc : ℕ) (ws₁ t₁ : List ℕ) → Lowered → Type 0
   Left i pc ws₁ t₁ r = (ws₂ t₂ : List ℕ) (u : Lowered) → Lowers fields (ops_steps i pc (drop i (ops_of b))) ws₁ t₁ r ws₂ t₂ u → Lowers fields (ops_steps 0 b.pc0 (ops_of b)) ws t q ws₂ t₂ u
-
-  pub all_left : Left 0 b.pc0 ws t q
-  all_left ws₂ t₂ u h = h
 
   -- of every block with these fields
   pub of_block : (ss : List Meant) (ws₂ t₂ : List ℕ) (u : Lowered) → Lowers fields ss ws t q ws₂ t₂ u → Lowers b ss ws t q ws₂ t₂ u

@@ -1,18 +1,16 @@
 -- What `translate` answers at each of its ends is the definition's.
 use mathlib.Core.Path.{◌≡◌, refl, sym, ap, ap₂, ◌∙◌}
 use mathlib.Core.Bool.{Bool, true, false}
-use mathlib.Core.List.{List, [], ◌∷◌}
+use mathlib.Core.List.{List}
 use Prim.Native.Nat.{ℕ}
 use native.Mathlib.Omega.{arith}
 use lib.Dec.{ltb}
-use lib.ListN.{length, take, get_or}
-use lib.Seq.{take_all}
+use lib.ListN.{length}
 use Rattle.record.specs.declared.Answer.TheVariants.{Accepted as NoFault, Refused as Fault}
 use Rattle.record.specs.declared.Reading.{Reading}
 use Rattle.record.specs.Record.{reading}
 use Rattle.record.proofs.Accepted.{Bytes}
 use Rattle.code.specs.Items.{pick}
-use Rattle.lowering.specs.declared.Site.{Site}
 use Rattle.lowering.specs.Fragments.{opening}
 use Rattle.lowering.specs.Steps.{block_steps}
 use Rattle.lowering.specs.Compile.{block_code, block_words, body_offset, starts, targets, zip_sites, sites}
@@ -34,28 +32,6 @@ Met bytes lent ws r = (told r ≡ translation bytes lent) × ((ws ≡ lent_after
 met : (bytes lent ws : List ℕ) (r : Translated) → Bytes bytes → told r ≡ translation bytes lent → ws ≡ lent_after bytes lent
     → Met bytes lent ws r
 met bytes lent ws r are e q = (e, (q, promised bytes lent ws (told r) are e q))
-
--- ---- the sites, out of two arrays
-abbrev site : (ps ts : List ℕ) → ℕ → Site
-site ps ts i = record { at = get_or ps i 0; target = get_or ts i 0 }
-
-pub one_site : (n : ℕ) (ps ts : List ℕ) → n ≡ 1 → length ps ≡ 2 → length ts ≡ 2 → site ps ts 0 ∷ [] ≡ zip_sites (take n ps) (take n ts)
-one_site n (p ∷ ps) (t ∷ ts) e a c = rw e
-one_site n [] ts e a c = absurd (omega arith)
-one_site n (p ∷ ps) [] e a c = absurd (omega arith)
-
-two-of : (ps ts : List ℕ) → length ps ≡ 2 → length ts ≡ 2 → site ps ts 0 ∷ site ps ts 1 ∷ [] ≡ zip_sites ps ts
-two-of (p ∷ q ∷ []) (t ∷ u ∷ []) a c = refl
-two-of [] ts a c = absurd (omega arith)
-two-of (p ∷ []) ts a c = absurd (omega arith)
-two-of (p ∷ q ∷ r ∷ ps) ts a c = absurd (omega arith)
-two-of (p ∷ q ∷ []) [] a c = absurd (omega arith)
-two-of (p ∷ q ∷ []) (t ∷ []) a c = absurd (omega arith)
-two-of (p ∷ q ∷ []) (t ∷ u ∷ v ∷ ts) a c = absurd (omega arith)
-
-pub two_sites : (n : ℕ) (ps ts : List ℕ) → (n ≡ 0 → ⊥) → (n ≡ 1 → ⊥) → length ps ≡ 2 → length ts ≡ 2
-    → site ps ts 0 ∷ site ps ts 1 ∷ [] ≡ zip_sites (take n ps) (take n ts)
-two_sites n ps ts z o a c = two-of ps ts a c ∙ ap₂ zip_sites (sym (take_all n ps (omega arith))) (sym (take_all n ts (omega arith)))
 
 -- ---- the end of an assembly
 words_only : (t : Bool) (m n : ℕ) → Words n ≡ pick t (TooFew m) (Words m) → (t ≡ false) × (n ≡ m)
