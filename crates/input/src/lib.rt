@@ -47,8 +47,7 @@ enum Turn {
 
 // Reads one piece and puts it behind the bytes that are there.
 fn read_more<R: Read>(from: &mut R, buf: &mut [u8], len: usize) -> io::Result<Turn>
-    requires { len ≤ length buf.old }
-    ensures { IfOk result (Turned (R.remaining from.old) (R.remaining from.new) buf.old buf.new len) }
+    ensures { IfOk result (λ t. len ≤ length buf.old → Turned (R.remaining from.old) (R.remaining from.new) buf.old buf.new len t) }
 {
     let mut piece = [0u8; 4096];
     match read_piece(from, &mut piece)? {
