@@ -3,7 +3,7 @@
 
 ghost use Rattle.std.specs.Prelude.{◌≡◌, false, ◌+◌, ◌≤◌, ◌<◌, length};
 ghost use Rattle.block.specs.Block.{in_flash};
-ghost use Rattle.fields.specs.Fields.{cut as isCut, field_fault, layout_of, spans, span, any, far as isFar, unaligned, meets};
+ghost use Rattle.fields.specs.Fields.{cut as is_cut, field_fault, layout_of, spans, span, any, far as is_far, unaligned, meets};
 ghost use Rattle.fields.specs.Fields.{overlap as overlapping, layout_fault, layout_field, memory_of, region_fault, memory_fault};
 ghost use Rattle.fields.specs.Fields.{memory_field, addresses_of, addresses_field, inside_ram, start_of, start_fault, start_field};
 ghost use Rattle.fields.specs.Fields.{guard_of, guard_field, guard_at};
@@ -14,7 +14,7 @@ use operands::{byte, get16, get32, get64};
 // Header or payload of the field at `at` cut, or the field missing.
 pub fn cut(s: &[u8], at: usize) -> bool
     requires { at ≤ length s.now }
-    ensures { result ≡ isCut s.now at }
+    ensures { result ≡ is_cut s.now at }
 {
     if s.len() - at < 3 {
         return true;
@@ -59,7 +59,7 @@ pub fn layout_of(p: &[u8]) -> Layout
 
 // The last word of a place of that size lies at 16384 or above.
 fn far(start: u32, size: u32) -> bool
-    ensures { result ≡ isFar (span start size) }
+    ensures { result ≡ is_far (span start size) }
 {
     16388 <= (start as u64) + (size as u64)
 }
@@ -71,7 +71,7 @@ fn meet(a: u32, size: u32, b: u32) -> bool
 }
 
 fn any_far(o: Layout) -> bool
-    ensures { result ≡ any isFar (spans o) }
+    ensures { result ≡ any is_far (spans o) }
 {
     far(o.regs, 64) | (far(o.sp, 4) | (far(o.rets, 4) | (far(o.pc, 4) | far(o.hold, 4))))
 }

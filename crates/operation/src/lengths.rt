@@ -1,6 +1,6 @@
 // Groups: how many words they move, and whether these are more than a region has.
 ghost use Rattle.std.specs.Prelude.{◌≡◌, suc, ◌<◌, length};
-ghost use Rattle.block.specs.Block.{saved, moved as movedBy};
+ghost use Rattle.block.specs.Block.{saved, moved as moved_by};
 ghost use Rattle.operands.specs.Kinds.{fast_of};
 ghost use Rattle.operation.specs.Operation.{too_long};
 
@@ -20,7 +20,7 @@ fn saved_and(n: u8) -> u32
 // The words that a group moves, rets and pc included. Kinds 40 to 44 are the groups; any other moves none.
 pub fn moved(kind: u8, x: [u32; 6]) -> u32
     requires { kind < 50 }
-    ensures { result ≡ movedBy (fast_of kind x) }
+    ensures { result ≡ moved_by (fast_of kind x) }
 {
     match kind {
         40 => u32::count_ones(x[1] % 65536),

@@ -4,7 +4,7 @@
 ghost use Rattle.std.specs.Prelude.{◌≡◌, false, ◌+◌, ◌≤◌, ◌<◌, length};
 ghost use Rattle.block.specs.Block.{in_flash};
 ghost use Rattle.block.specs.Checked.{Checked};
-ghost use Rattle.record.specs.Record.{Accepted, empty, refused as refusedAt, header as headerOf, operations as operationsOf};
+ghost use Rattle.record.specs.Record.{Accepted, empty, refused as refused_at, header as header_of, operations as operations_of};
 ghost use Rattle.record.specs.Record.{start_of, guard_field, reading, Told};
 ghost use Rattle.record.specs.Parts.{Faultless};
 
@@ -72,7 +72,7 @@ fn no_block() -> Block
 }
 
 fn refused(number: u32, place: usize) -> Reading
-    ensures { result ≡ refusedAt number place }
+    ensures { result ≡ refused_at number place }
 {
     Reading {
         answer: Answer::Refused(number, place),
@@ -83,7 +83,7 @@ fn refused(number: u32, place: usize) -> Reading
 // Fields 01 to 04, of a RAM block 06 too, and no operation.
 fn header(s: &[u8]) -> Block
     requires { Faultless s.now × (guard_field s.now ≡ 0) }
-    ensures { result ≡ headerOf s.now }
+    ensures { result ≡ header_of s.now }
 {
     let none = no_block();
     let ops = none.ops;
@@ -101,7 +101,7 @@ fn header(s: &[u8]) -> Block
 // The operations from a byte on, up to the record's end.
 fn read_operations(s: &[u8], from: usize, b: Block) -> Reading
     requires { (from ≤ length s.now) × (b.n ≡ 0) × (length b.ops ≡ 32) }
-    ensures { result ≡ operationsOf 33 s.now from b }
+    ensures { result ≡ operations_of 33 s.now from b }
 {
     let m = b.memory;
     let mut answer = Answer::Accepted;
