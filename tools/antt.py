@@ -15,6 +15,7 @@ HEAD = re.compile(r"(?:abbrev |unfoldable )?(?:pub )?(record |data |ruleset )?([
 ALONE = re.compile(r"(?:abbrev |unfoldable )?pub ([^\s:(){}]+)$")  # its signature stands on the next line
 ITEM = re.compile(r"(?:pub )?(?:extern \"C\" )?(enum|struct|const|type|fn) (\w+)")
 CLAUSE = re.compile(r"\s*(requires|ensures)\b")
+LABEL = re.compile(r"^\s*(requires|ensures) \w+ (?=\{)")  # a clause's own name, which names nothing
 MODULE = re.compile(r"Rattle\.(\w+)\.(specs|proofs)\.(\S+)")
 
 
@@ -41,7 +42,7 @@ class Definition:
     def add(self, text, clause=False):
         self.lines.append(text)
         if clause:
-            self.cited |= tokens(text)
+            self.cited |= tokens(LABEL.sub("", text))
         else:
             self.names |= tokens(text)
 
