@@ -89,6 +89,7 @@ class File:
         for i, indent, s in lines:
             item = ITEM.match(s) if indent == 0 else re.match(r"    pub (fn) (\w+)", s)
             if item:
+                self.names.add(item[2])
                 now, clause, base = self.definitions.setdefault(item[2], Definition(self, item[2], i)), False, indent
                 end = {"fn": "{", "enum": "}", "struct": ("}", ";")}.get(item[1], ";")
             if now:
