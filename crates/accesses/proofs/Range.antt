@@ -1,6 +1,7 @@
 -- The range test of an access: is the offset from a region's base inside it?
 --     range_frag          the code of the test
 --     range_in, range_out     its jump is not taken inside, and taken outside
+--     store_limit             the offset that it is held against, of a store
 use mathlib.Core.Path.{◌≡◌, refl, ap, ◌∙◌}
 use mathlib.Core.Option.{Option, none, some}
 use mathlib.Core.List.{[], ◌∷◌, ◌++◌}
@@ -14,6 +15,7 @@ use Rattle.arm.specs.declared.Logic.TheVariants.{And}
 use Rattle.block.specs.declared.Width.{Width}
 use Rattle.block.specs.declared.Width.TheVariants.{Byte as B8, Half as B16, Word as B32}
 use Rattle.block.specs.declared.Block.{Block}
+use Rattle.block.specs.Block.{bytes}
 use Rattle.code.specs.Items.{b_cond}
 use Rattle.code.specs.Tree.{Depth, Var, code, to}
 use Rattle.machine.specs.Bits.{ConditionHolds}
@@ -35,6 +37,10 @@ use Rattle.registers.proofs.Constants.{Below, sim-below, temp_frag, mov32-sim}
 use Rattle.accesses.proofs.Paths.{Goes, goes_if, frag_unless}
 use Rattle.accesses.proofs.Temps.{compare_frag, below_same, below_set, below-skip}
 use Rattle.accesses.proofs.Numbers.{even_is}
+
+-- the last offset in RAM at which a store of this width ends inside
+abbrev pub store_limit : Block → Width → ℕ
+store_limit b w = b.memory.ram_len - bytes w
 
 abbrev pub tested : Abs → (offset limit : ℕ) → Abs
 tested a o l = record { c = a.c; t = upd (upd a.t 2 (some l)) 3 (some o); f = some (compared W o l) }

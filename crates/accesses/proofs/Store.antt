@@ -9,7 +9,7 @@ use mathlib.Core.Bool.{Bool, true, false, cond, not, ◌&&◌}
 use mathlib.Core.Option.{Option, none, some}
 use mathlib.Core.List.{List, [], ◌∷◌, ◌++◌}
 use mathlib.Core.Logic.{◌≢◌}
-use Prim.Native.Nat.{ℕ, ◌-◌, ◌/◌, ◌%◌, ◌^◌, ◌≤◌, ◌<◌}
+use Prim.Native.Nat.{ℕ, ◌/◌, ◌%◌, ◌^◌, ◌≤◌, ◌<◌}
 use native.Mathlib.Nat.{mod-eq_of_lt}
 use native.Mathlib.Omega.{arith}
 use borrow.Author.Tests.{leb-true, leb-false, eqb-true, eqb-false, not-true, not-false}
@@ -55,7 +55,7 @@ use Rattle.accesses.proofs.Paths.{Goes, goes_map, goes_after, goes_before, goes_
 use Rattle.accesses.proofs.Temps.{below_same, below_set, below-skip, below-kill, forget}
 use Rattle.accesses.proofs.Numbers.{bytes_pos, bytes_le, bytes_small, read_is, write_is, write_low}
 use Rattle.accesses.proofs.Ask.{move_frag, context_frag, count_frag, bytes_frag, write_frag}
-use Rattle.accesses.proofs.Range.{tested, range_frag, range_in, range_out}
+use Rattle.accesses.proofs.Range.{store_limit, tested, range_frag, range_in, range_out}
 
 -- ---- RAM changes
 module _ {b : Block} {h : Helpers} {s0 : State} (B : Body b h s0) where
@@ -104,7 +104,7 @@ module _ {b : Block} {h : Helpers} {s0 : State} (B : Body b h s0) (C : Checked b
     at = minus p b.memory.ram_base
 
     abbrev lim : ℕ
-    lim = b.memory.ram_len - bytes w
+    lim = store_limit b w
 
     -- behind the range test: the offset in w3
     abbrev held : Abs

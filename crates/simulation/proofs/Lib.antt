@@ -1,6 +1,8 @@
 pub mod Sites
 pub mod Steps
+pub mod Versions
 pub mod Guard
+pub mod Guarded
 pub mod Operations
 pub mod Demand
 pub mod Records

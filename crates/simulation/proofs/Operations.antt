@@ -58,7 +58,7 @@ use Rattle.readiness.proofs.Encodable.{op-known}
 use Rattle.lowering.proofs.Targets.{targets-append}
 use Rattle.simulation.proofs.Sites.{Aimed}
 use Rattle.simulation.proofs.Sites.{sited as step-sited}
-use Rattle.simulation.proofs.Guard.{guard-meets}
+use Rattle.simulation.proofs.Guarded.{guard-meets}
 use Rattle.simulation.proofs.Steps.{site_at, leaves_as, leaves-front, front_same, aimed_front}
 use Rattle.simulation.proofs.Steps.{met_then, cache_after, step_met, StepsMet, steps_met}
 use Rattle.registers.proofs.Frags.{frag_nil}

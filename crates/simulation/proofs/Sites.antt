@@ -140,10 +140,6 @@ module _ (b : Block) (rc : RegCache) (p : ℕ) where
     unfolding step_code fork chain starts
     site-behind = (omega arith, (omega arith, refl))
 
-    site-taken : SitedStep (off (chains 1) (arrive target count c)) (Step.fork k pc target count)
-    unfolding step_code fork chain starts
-    site-taken = (omega arith, (omega arith, refl))
-
   -- ---- what the machine between gives
   of_known : {A : Type 0} (o : Option A) (f : A → Abs) (ss ts : List ℕ) → NoSites ss ts → Sited (known o (λ v. go (f v))) ss ts
   of_known none f ss ts e = tt
@@ -166,7 +162,7 @@ module _ (b : Block) (rc : RegCache) (p : ℕ) where
   of_got unmet f ss ts e = tt
 
   pub sited : (a : Abs) (flash : List ℕ) (lim : ℕ) (s : Step) → SitedStep (mstep b flash lim s a) s
-  unfolding mstep
+  unfolding mstep step_code fork chain starts
   sited a flash lim (Step.ld_reg t r) = plain_none (Step.ld_reg t r) tt
   sited a flash lim (Step.st_reg t r) = of_known (a.t t) _ _ _ (plain_none (Step.st_reg t r) tt)
   sited a flash lim (Step.ld_field f t) = plain_none (Step.ld_field f t) tt
@@ -211,8 +207,11 @@ module _ (b : Block) (rc : RegCache) (p : ℕ) where
       forked : Bool → Then
       forked u = cond u (off (chains 1) (arrive target count a.c)) (off (chains 0) (arrive pc count a.c))
 
+      site-taken : SitedStep (off (chains 1) (arrive target count a.c)) (Step.fork k pc target count)
+      site-taken = (omega arith, (omega arith, refl))
+
       way : (u : Bool) → SitedStep (forked u) (Step.fork k pc target count)
-      way true = site-taken k pc target count a.c
+      way true = site-taken
       way false = site-behind k pc target count a.c
 
       by : (o : Option Nzcv) → SitedStep (known o (λ g. forked (ConditionHolds k g))) (Step.fork k pc target count)
