@@ -1,78 +1,79 @@
 // The A64 instructions of the encoders, grouped by the encoding classes of the Arm manual (C4.1). Operands stand in the order of
-// the manual's diagram, from left to right. Registers are 0 to 31, conditions 0 to 15, and signed fields are held as their bits.
+// the manual's diagram, from left to right. Registers are 0 to 31, conditions 0 to 15, and signed fields are held as their bits. Where
+// one field of the diagram tells the cases of a type apart, each case has that field's number.
 #![tactic(auto)]
 
 // sf: the register width, 32 bits or 64
 #[derive(Clone, Copy)]
 pub enum Size {
-    W,
-    X,
+    W = 0,
+    X = 1,
 }
 
 #[derive(Clone, Copy)]
 pub enum AddSub {
-    Add,
-    Sub,
+    Add = 0,
+    Sub = 1,
 }
 
 // S: whether the condition flags are set
 #[derive(Clone, Copy)]
 pub enum Flags {
-    Keeps,
-    Sets,
+    Keeps = 0,
+    Sets = 1,
 }
 
 #[derive(Clone, Copy)]
 pub enum Shift {
-    Lsl,
-    Lsr,
-    Asr,
-    Ror,
+    Lsl = 0,
+    Lsr = 1,
+    Asr = 2,
+    Ror = 3,
 }
 
 #[derive(Clone, Copy)]
 pub enum Move {
-    Movn,
-    Movz,
-    Movk,
+    Movn = 0,
+    Movz = 2,
+    Movk = 3,
 }
 
 #[derive(Clone, Copy)]
 pub enum Logic {
-    And,
-    Orr,
-    Eor,
-    Ands,
+    And = 0,
+    Orr = 1,
+    Eor = 2,
+    Ands = 3,
 }
 
 // N: whether the second operand is inverted
 #[derive(Clone, Copy)]
 pub enum Second {
-    Plain,
-    Inverted,
+    Plain = 0,
+    Inverted = 1,
 }
 
 #[derive(Clone, Copy)]
 pub enum Extract {
-    Sbfm,
-    Bfm,
-    Ubfm,
+    Sbfm = 0,
+    Bfm = 1,
+    Ubfm = 2,
 }
 
 #[derive(Clone, Copy)]
 pub enum One {
-    Rev16,
-    Rev,
-    Clz,
+    Rev16 = 1,
+    Rev = 2,
+    Clz = 4,
 }
 
 #[derive(Clone, Copy)]
 pub enum Two {
-    Udiv,
-    Sdiv,
-    Lslv,
-    Lsrv,
-    Asrv,
+    Udiv = 2,
+    Sdiv = 3,
+    Lslv = 8,
+    Lsrv = 9,
+    Asrv = 10,
 }
 
 #[derive(Clone, Copy)]
@@ -108,54 +109,54 @@ pub enum Access {
 // a register offset's shift: none, or the access's own size
 #[derive(Clone, Copy)]
 pub enum Scale {
-    Unscaled,
-    Scaled,
+    Unscaled = 0,
+    Scaled = 1,
 }
 
 #[derive(Clone, Copy)]
 pub enum Mode {
-    Post,
-    Offset,
-    Pre,
+    Post = 1,
+    Offset = 2,
+    Pre = 3,
 }
 
 #[derive(Clone, Copy)]
 pub enum Pair {
-    Stp,
-    Ldp,
+    Stp = 0,
+    Ldp = 1,
 }
 
 #[derive(Clone, Copy)]
 pub enum Test {
-    Zero,
-    Nonzero,
+    Zero = 0,
+    Nonzero = 1,
 }
 
 #[derive(Clone, Copy)]
 pub enum Jump {
-    Br,
-    Blr,
-    Ret,
+    Br = 0,
+    Blr = 1,
+    Ret = 2,
 }
 
 #[derive(Clone, Copy)]
 pub enum Float {
-    Fmul,
-    Fdiv,
-    Fadd,
-    Fsub,
-    Fmaxnm,
-    Fminnm,
+    Fmul = 0,
+    Fdiv = 1,
+    Fadd = 2,
+    Fsub = 3,
+    Fmaxnm = 6,
+    Fminnm = 7,
 }
 
 #[derive(Clone, Copy)]
 pub enum Convert {
-    Scvtf,
-    Ucvtf,
-    FmovWS,
-    FmovSW,
-    Fcvtzs,
-    Fcvtzu,
+    Scvtf = 2,
+    Ucvtf = 3,
+    FmovWS = 6,
+    FmovSW = 7,
+    Fcvtzs = 24,
+    Fcvtzu = 25,
 }
 
 #[derive(Clone, Copy)]

@@ -117,8 +117,9 @@ pub enum DivKind {
 }
 
 // The kinds, in document 01's order, then document 02's, with their operands in order.
-#[derive(Clone, Copy)]
+#[derive(Clone, Copy, Default)]
 pub enum Fast {
+    #[default]
     Nop,
     MovI {
         d: u8,
@@ -372,7 +373,7 @@ pub enum Fast {
 }
 
 // An operation of a block: its guest length in bytes, and whether it is glued to the next one.
-#[derive(Clone, Copy)]
+#[derive(Clone, Copy, Default)]
 pub struct BOp {
     pub fast: Fast,
     pub len: u8,
@@ -408,7 +409,7 @@ pub struct Addresses {
 }
 
 // A RAM block's guard, field 06: its `RamGuard`, and the helper that is asked where the versions differ. A flash block has zeros.
-#[derive(Clone, Copy)]
+#[derive(Clone, Copy, Default)]
 pub struct Guard {
     pub at: u64,
     pub h_ram_ok: u64,

@@ -11,7 +11,7 @@ pub struct RegCache {
 }
 
 // A chain site: its word's position, and the guest address that it goes on at.
-#[derive(Clone, Copy)]
+#[derive(Clone, Copy, Default)]
 pub struct Site {
     pub at: u32,
     pub target: u32,

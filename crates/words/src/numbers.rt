@@ -10,10 +10,7 @@ use arm::{
 pub fn sf(z: Size) -> u32
     ensures { (result ≡ sf z) × (result < 2 ^ 1) }
 {
-    match z {
-        Size::W => 0,
-        Size::X => 1,
-    }
+    z as u32
 }
 
 pub fn bits(z: Size) -> u32
@@ -28,92 +25,55 @@ pub fn bits(z: Size) -> u32
 pub fn add_sub_op(o: AddSub) -> u32
     ensures { (result ≡ add_sub_op o) × (result < 2 ^ 1) }
 {
-    match o {
-        AddSub::Add => 0,
-        AddSub::Sub => 1,
-    }
+    o as u32
 }
 
 pub fn flags_op(f: Flags) -> u32
     ensures { (result ≡ flags_op f) × (result < 2 ^ 1) }
 {
-    match f {
-        Flags::Keeps => 0,
-        Flags::Sets => 1,
-    }
+    f as u32
 }
 
 pub fn shift_op(h: Shift) -> u32
     ensures { (result ≡ shift_op h) × (result < 2 ^ 2) }
 {
-    match h {
-        Shift::Lsl => 0,
-        Shift::Lsr => 1,
-        Shift::Asr => 2,
-        Shift::Ror => 3,
-    }
+    h as u32
 }
 
 pub fn move_op(m: Move) -> u32
     ensures { (result ≡ move_op m) × (result < 2 ^ 2) }
 {
-    match m {
-        Move::Movn => 0,
-        Move::Movz => 2,
-        Move::Movk => 3,
-    }
+    m as u32
 }
 
 pub fn logic_op(o: Logic) -> u32
     ensures { (result ≡ logic_op o) × (result < 2 ^ 2) }
 {
-    match o {
-        Logic::And => 0,
-        Logic::Orr => 1,
-        Logic::Eor => 2,
-        Logic::Ands => 3,
-    }
+    o as u32
 }
 
 pub fn second_op(v: Second) -> u32
     ensures { (result ≡ second_op v) × (result < 2 ^ 1) }
 {
-    match v {
-        Second::Plain => 0,
-        Second::Inverted => 1,
-    }
+    v as u32
 }
 
 pub fn extract_op(o: Extract) -> u32
     ensures { (result ≡ extract_op o) × (result < 2 ^ 2) }
 {
-    match o {
-        Extract::Sbfm => 0,
-        Extract::Bfm => 1,
-        Extract::Ubfm => 2,
-    }
+    o as u32
 }
 
 pub fn one_op(o: One) -> u32
     ensures { (result ≡ one_op o) × (result < 2 ^ 6) }
 {
-    match o {
-        One::Rev16 => 1,
-        One::Rev => 2,
-        One::Clz => 4,
-    }
+    o as u32
 }
 
 pub fn two_op(o: Two) -> u32
     ensures { (result ≡ two_op o) × (result < 2 ^ 6) }
 {
-    match o {
-        Two::Udiv => 2,
-        Two::Sdiv => 3,
-        Two::Lslv => 8,
-        Two::Lsrv => 9,
-        Two::Asrv => 10,
-    }
+    o as u32
 }
 
 pub fn three_sf(o: Three) -> u32
@@ -208,72 +168,41 @@ pub fn access_opc(a: Access) -> u32
 pub fn scale_op(c: Scale) -> u32
     ensures { (result ≡ scale_op c) × (result < 2 ^ 1) }
 {
-    match c {
-        Scale::Unscaled => 0,
-        Scale::Scaled => 1,
-    }
+    c as u32
 }
 
 pub fn mode_op(m: Mode) -> u32
     ensures { (result ≡ mode_op m) × (result < 2 ^ 2) }
 {
-    match m {
-        Mode::Post => 1,
-        Mode::Offset => 2,
-        Mode::Pre => 3,
-    }
+    m as u32
 }
 
 pub fn pair_op(p: Pair) -> u32
     ensures { (result ≡ pair_op p) × (result < 2 ^ 1) }
 {
-    match p {
-        Pair::Stp => 0,
-        Pair::Ldp => 1,
-    }
+    p as u32
 }
 
 pub fn test_op(t: Test) -> u32
     ensures { (result ≡ test_op t) × (result < 2 ^ 1) }
 {
-    match t {
-        Test::Zero => 0,
-        Test::Nonzero => 1,
-    }
+    t as u32
 }
 
 pub fn jump_op(j: Jump) -> u32
     ensures { (result ≡ jump_op j) × (result < 2 ^ 2) }
 {
-    match j {
-        Jump::Br => 0,
-        Jump::Blr => 1,
-        Jump::Ret => 2,
-    }
+    j as u32
 }
 
 pub fn float_op(o: Float) -> u32
     ensures { (result ≡ float_op o) × (result < 2 ^ 4) }
 {
-    match o {
-        Float::Fmul => 0,
-        Float::Fdiv => 1,
-        Float::Fadd => 2,
-        Float::Fsub => 3,
-        Float::Fmaxnm => 6,
-        Float::Fminnm => 7,
-    }
+    o as u32
 }
 
 pub fn convert_op(o: Convert) -> u32
     ensures { (result ≡ convert_op o) × (result < 2 ^ 5) }
 {
-    match o {
-        Convert::Scvtf => 2,
-        Convert::Ucvtf => 3,
-        Convert::FmovWS => 6,
-        Convert::FmovSW => 7,
-        Convert::Fcvtzs => 24,
-        Convert::Fcvtzu => 25,
-    }
+    o as u32
 }
