@@ -1,92 +1,66 @@
 // A line of the input and its answer.
-ghost use Rattle.std.specs.Prelude.{◌≤◌, length};
-
+use arrayvec::ArrayVec;
 use calls::Numbers;
 use constants::Sequence;
 use std::io;
 use std::io::Write;
-use text::{Held, Number};
+use text::{Buffer, Words};
 
-// The words of a line behind its name, as numbers, or that they are none or too many.
-fn numbers(line: &[u8], from: usize) -> Numbers
-    requires { from ≤ length line.now }
-{
-    let mut values = [0u64; 4];
-    let mut count = 0;
-    let mut at = from;
-    while count < 4 {
-        let w = text::word_at(line, at);
-        let a = w.from;
-        let e = w.to;
-        if a == e {
-            return Numbers { count, values };
-        }
-        match text::number_of(&line[a..e]) {
-            Number::Of(v) => {
-                values[count] = v;
-            }
-            Number::Nothing => {
-                return Numbers {
-                    count: calls::NO_NUMBERS,
-                    values,
-                };
-            }
-        }
-        count += 1;
-        at = e;
+// The words of a line behind its name, as numbers; none where one is no number, or there are more than four.
+fn numbers(words: Words) -> Option<ArrayVec<u64, 4>> {
+    let mut numbers = ArrayVec::new();
+    for word in words {
+        numbers.try_push(text::number_of(word)?).ok()?;
     }
-    let rest = text::word_at(line, at);
-    if rest.from < rest.to {
-        return Numbers {
-            count: calls::NO_NUMBERS,
-            values,
-        };
-    }
-    Numbers { count, values }
+    Some(numbers)
 }
 
 // What a line calls: a name and its numbers.
 fn called(line: &[u8]) -> Sequence {
-    let w = text::word_at(line, 0);
-    let a = w.from;
-    let e = w.to;
-    let n = numbers(line, e);
-    calls::call(&line[a..e], n)
+    let mut words = Words(line);
+    let (Some(name), Some(n)) = (words.next(), numbers(words)) else {
+        return Sequence::Refused(calls::UNKNOWN);
+    };
+    let mut values = [0u64; 4];
+    values[..n.len()].copy_from_slice(n.as_slice());
+    calls::call(
+        name,
+        Numbers {
+            count: n.len(),
+            values,
+        },
+    )
 }
 
-fn put_refused(out: &mut [u8], n: u32) -> usize {
+fn put_refused(out: &mut Buffer, n: u32) {
     if n == calls::UNKNOWN {
-        return text::put_all(out, 0, b"unknown\n");
+        out.put(b"unknown\n");
+        return;
     }
-    let at = text::put_all(out, 0, b"refused ");
-    let end = text::put_decimal(out, at, n as u64);
-    text::put_all(out, end, b" 0\n")
+    out.put(b"refused ");
+    out.put_decimal(n as u64);
+    out.put(b" 0\n");
 }
 
 // Puts the line that answers a call.
-fn put_answer(out: &mut [u8], s: Sequence) -> usize {
+fn put_answer(out: &mut Buffer, s: Sequence) {
     match s {
-        Sequence::Empty => text::put_all(out, 0, b"\n"),
-        Sequence::One(a) => text::put_rows(out, 0, &[a]),
-        Sequence::Two(a, b) => text::put_rows(out, 0, &[a, b]),
-        Sequence::Three(a, b, c) => text::put_rows(out, 0, &[a, b, c]),
-        Sequence::Four(a, b, c, d) => text::put_rows(out, 0, &[a, b, c, d]),
+        Sequence::Empty => out.put(b"\n"),
+        Sequence::One(a) => out.put_rows(&[a]),
+        Sequence::Two(a, b) => out.put_rows(&[a, b]),
+        Sequence::Three(a, b, c) => out.put_rows(&[a, b, c]),
+        Sequence::Four(a, b, c, d) => out.put_rows(&[a, b, c, d]),
         Sequence::Refused(n) => put_refused(out, n),
     }
 }
 
-fn write_answer<W: Write>(to: &mut W, s: Sequence) -> io::Result<()> {
-    let mut out = [0u8; 64];
-    let n = put_answer(&mut out, s);
-    let k = text::within(n, &out);
-    to.write_all(&out[..k])
-}
-
-// Writes the answer to a line that is held whole, or to one that was too long to be.
-pub fn answer<W: Write>(to: &mut W, line: &[u8], held: Held) -> io::Result<()> {
-    if held.long {
-        return write_answer(to, Sequence::Refused(calls::UNKNOWN));
-    }
-    let n = text::within(held.len, line);
-    write_answer(to, called(&line[..n]))
+// Writes the answer to a line, or to one that was too long to be held.
+pub fn answer<W: Write>(to: &mut W, line: Option<&[u8]>) -> io::Result<()> {
+    let mut room = [0u8; 64];
+    let mut out = Buffer::new(&mut room);
+    put_answer(
+        &mut out,
+        line.map_or(Sequence::Refused(calls::UNKNOWN), called),
+    );
+    to.write_all(out.written())
 }
