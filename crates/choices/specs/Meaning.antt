@@ -1,7 +1,11 @@
--- The instructions that the code calls by a name: with no operand to choose.
+-- The instructions that the code calls by a name: with no operand to choose. And the conditions' numbers.
+use Rattle.std.specs.Prelude.{ℕ}
 use Rattle.arm.specs.declared.Instr.{Instr}
-use Rattle.lowering.specs.Instrs.{KEEP, KEEP2, ZR, EQ, LT, GT, mov, movz, add_i, sub_i, cmp_i, add, sub, cmp, neg, and, orr, eor, mvn, tst}
+use Rattle.lowering.specs.Instrs.{KEEP, KEEP2, ZR, EQ, NE, HS, LO, HI, LS, GE, LT, GT, LE}
+use Rattle.lowering.specs.Instrs.{mov, movz, add_i, sub_i, cmp_i, add, sub, cmp, neg, and, orr, eor, mvn, tst}
 use Rattle.lowering.specs.Instrs.{rev, clz, sdiv, udiv, lslv, msub, csel, cneg_lt}
+use Rattle.choices.specs.declared.Condition.{Condition}
+use Rattle.choices.specs.declared.Condition.TheVariants.{Eq, Ne, Hs, Lo, Hi, Ls, Ge, Lt, Gt, Le}
 use Rattle.choices.specs.declared.Fixed.{Fixed}
 use Rattle.choices.specs.declared.Fixed.TheVariants.{Movz11, Lslv112, Cmp01, CmpI00, CmpI10, Tst01, Mvn00, Neg00, CnegLt00, Rev00}
 use Rattle.choices.specs.declared.Fixed.TheVariants.{Clz00, Csel010Gt, Csel010Lt, Csel0z0Lt, Csel2z2Eq, Sdiv201, Udiv201, Msub2210}
@@ -44,3 +48,15 @@ instr_of Add00Keep = add 0 0 KEEP
 instr_of MovKeep21 = mov KEEP2 1
 instr_of Mov1Keep2 = mov 1 KEEP2
 instr_of Mov10 = mov 1 0
+
+abbrev pub number_of : Condition → ℕ
+number_of Eq = EQ
+number_of Ne = NE
+number_of Hs = HS
+number_of Lo = LO
+number_of Hi = HI
+number_of Ls = LS
+number_of Ge = GE
+number_of Lt = LT
+number_of Gt = GT
+number_of Le = LE

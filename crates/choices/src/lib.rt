@@ -8,7 +8,7 @@ ghost use Rattle.lowering.specs.Instrs.{add_lsl, csel as csel_of, ubfx, sbfx, ls
 ghost use Rattle.lowering.specs.Steps.{alu as alu_of, acond as acond_of, ext as ext_of, choice, ones as ones_of, hole as hole_of};
 ghost use Rattle.lowering.specs.Steps.{sign as sign_of};
 ghost use Rattle.words.specs.Answers.{answer, word_of};
-ghost use Rattle.choices.specs.Meaning.{instr_of};
+ghost use Rattle.choices.specs.Meaning.{instr_of, number_of};
 
 use arm::{
     AddSub, Extract, Flags, Instr, Logic, Move, One, Second, Select, Shift, Size, Three, Two,
@@ -21,26 +21,20 @@ const KEEP2: u32 = 24;
 
 const ZR: u32 = 31;
 
-// conditions, by their numbers
-const EQ: u32 = 0;
-
-const NE: u32 = 1;
-
-const HS: u32 = 2;
-
-const LO: u32 = 3;
-
-const HI: u32 = 8;
-
-const LS: u32 = 9;
-
-const GE: u32 = 10;
-
-const LT: u32 = 11;
-
-const GT: u32 = 12;
-
-const LE: u32 = 13;
+// A condition of the Arm manual (C1.2.4): each case has its number.
+#[derive(Clone, Copy)]
+enum Condition {
+    Eq = 0,
+    Ne = 1,
+    Hs = 2,
+    Lo = 3,
+    Hi = 8,
+    Ls = 9,
+    Ge = 10,
+    Lt = 11,
+    Gt = 12,
+    Le = 13,
+}
 
 // An instruction with no operand to choose: its name and its registers.
 #[derive(Clone, Copy)]
@@ -95,10 +89,10 @@ fn logic(o: Logic, n: Second, rd: u32, rn: u32, rm: u32) -> u32
     words::logical_shifted(Size::W, o, n, Shift::Lsl, rm, 0, rn, rd)
 }
 
-fn csel(rd: u32, rn: u32, rm: u32, cond: u32) -> u32
-    ensures { result ≡ word_of (answer (csel_of rd rn rm cond)) }
+fn csel(rd: u32, rn: u32, rm: u32, cond: Condition) -> u32
+    ensures { result ≡ word_of (answer (csel_of rd rn rm (number_of cond))) }
 {
-    words::cond_select(Size::W, Select::Csel, rm, cond, rn, rd)
+    words::cond_select(Size::W, Select::Csel, rm, cond as u32, rn, rd)
 }
 
 // Bits lsb to last of w0, to w0.
@@ -125,13 +119,20 @@ pub fn named(f: Fixed) -> u32
         Fixed::Tst01 => logic(Logic::Ands, Second::Plain, ZR, 0, 1),
         Fixed::Mvn00 => logic(Logic::Orr, Second::Inverted, 0, ZR, 0),
         Fixed::Neg00 => sum(AddSub::Sub, Flags::Keeps, 0, ZR, 0),
-        Fixed::CnegLt00 => words::cond_select(Size::W, Select::Csneg, 0, GE, 0, 0),
+        Fixed::CnegLt00 => words::cond_select(
+            Size::W,
+            Select::Csneg,
+            0,
+            Condition::Ge as u32,
+            0,
+            0,
+        ),
         Fixed::Rev00 => words::one_source(One::Rev, 0, 0),
         Fixed::Clz00 => words::one_source(One::Clz, 0, 0),
-        Fixed::Csel010Gt => csel(0, 1, 0, GT),
-        Fixed::Csel010Lt => csel(0, 1, 0, LT),
-        Fixed::Csel0z0Lt => csel(0, ZR, 0, LT),
-        Fixed::Csel2z2Eq => csel(2, ZR, 2, EQ),
+        Fixed::Csel010Gt => csel(0, 1, 0, Condition::Gt),
+        Fixed::Csel010Lt => csel(0, 1, 0, Condition::Lt),
+        Fixed::Csel0z0Lt => csel(0, ZR, 0, Condition::Lt),
+        Fixed::Csel2z2Eq => csel(2, ZR, 2, Condition::Eq),
         Fixed::Sdiv201 => words::two_source(Size::W, Two::Sdiv, 1, 0, 2),
         Fixed::Udiv201 => words::two_source(Size::W, Two::Udiv, 1, 0, 2),
         Fixed::Msub2210 => words::three_source(Three::Msub, 1, 0, 2, 2),
@@ -190,10 +191,10 @@ pub fn select(kind: Choice) -> u32
     ensures { result ≡ word_of (answer (csel_of 0 0 1 (choice kind))) }
 {
     match kind {
-        Choice::MinS => csel(0, 0, 1, LT),
-        Choice::MaxS => csel(0, 0, 1, GT),
-        Choice::MinU => csel(0, 0, 1, LO),
-        Choice::MaxU => csel(0, 0, 1, HI),
+        Choice::MinS => csel(0, 0, 1, Condition::Lt),
+        Choice::MaxS => csel(0, 0, 1, Condition::Gt),
+        Choice::MinU => csel(0, 0, 1, Condition::Lo),
+        Choice::MaxU => csel(0, 0, 1, Condition::Hi),
     }
 }
 
@@ -201,20 +202,20 @@ pub fn select(kind: Choice) -> u32
 pub fn lsl(n: u8) -> u32
     ensures { result ≡ word_of (answer (lsl_i 0 0 (n % 32))) }
 {
-    let sh = (n as u32) % 32;
+    let sh = u32::from(n) % 32;
     words::bitfield(Size::W, Extract::Ubfm, (32 - sh) % 32, 31 - sh, 0, 0)
 }
 
 pub fn lsr(n: u8) -> u32
     ensures { result ≡ word_of (answer (lsr_i 0 0 (n % 32))) }
 {
-    field(false, (n as u32) % 32, 31)
+    field(false, u32::from(n) % 32, 31)
 }
 
 pub fn asr(n: u8) -> u32
     ensures { result ≡ word_of (answer (asr_i 0 0 (n % 32))) }
 {
-    field(true, (n as u32) % 32, 31)
+    field(true, u32::from(n) % 32, 31)
 }
 
 // w0 = w0 + w1 shifted
@@ -227,7 +228,7 @@ pub fn add_lsl(n: u8) -> u32
         Flags::Keeps,
         Shift::Lsl,
         1,
-        (n as u32) % 32,
+        u32::from(n) % 32,
         0,
         0,
     )
@@ -237,7 +238,7 @@ pub fn add_lsl(n: u8) -> u32
 pub fn low(l: u8, signed: bool) -> u32
     ensures { result ≡ word_of (answer (pick signed (sbfx 0 0 0 (l % 32)) (ubfx 0 0 0 (l % 32)))) }
 {
-    let n = (l as u32) % 32;
+    let n = u32::from(l) % 32;
     if n == 0 {
         return field(signed, 0, 0);
     }
@@ -249,7 +250,7 @@ pub fn low(l: u8, signed: bool) -> u32
 pub fn ones(l: u8) -> u32
     ensures { result ≡ ones_of (l % 32) }
 {
-    let n = (l as u32) % 32;
+    let n = u32::from(l) % 32;
     if n == 0 {
         return 0xffff_ffff;
     }
@@ -260,7 +261,7 @@ pub fn ones(l: u8) -> u32
 pub fn hole(p: u8, l: u8) -> u32
     ensures { result ≡ hole_of (p % 32) (l % 32) }
 {
-    0xffff_ffff - (ones(l) << ((p as u32) % 32))
+    0xffff_ffff - (ones(l) << (u32::from(p) % 32))
 }
 
 // The sign of v in every bit.
@@ -274,21 +275,22 @@ pub fn sign(v: u32) -> u32
 pub fn acond(c: Cond) -> u32
     ensures { (result ≡ acond_of c) × (result < 16) }
 {
-    match c {
-        Cond::Eq => EQ,
-        Cond::Ne => NE,
-        Cond::LtU => LO,
-        Cond::GtU => HI,
-        Cond::LeU => LS,
-        Cond::GeU => HS,
-        Cond::LtS => LT,
-        Cond::GtS => GT,
-        Cond::LeS => LE,
-        Cond::GeS => GE,
-    }
+    let condition = match c {
+        Cond::Eq => Condition::Eq,
+        Cond::Ne => Condition::Ne,
+        Cond::LtU => Condition::Lo,
+        Cond::GtU => Condition::Hi,
+        Cond::LeU => Condition::Ls,
+        Cond::GeU => Condition::Hs,
+        Cond::LtS => Condition::Lt,
+        Cond::GtS => Condition::Gt,
+        Cond::LeS => Condition::Le,
+        Cond::GeS => Condition::Ge,
+    };
+    condition as u32
 }
 
-// The number of a kind.
+// The number of a kind, as a record has it: a case that holds values has no discriminant of its own.
 pub fn kind(f: Fast) -> u8
     ensures { result ≡ kind_of f }
 {
