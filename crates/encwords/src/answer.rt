@@ -1,79 +1,55 @@
 // A line of the input and its answer.
-ghost use Rattle.std.specs.Prelude.{◌≤◌, length};
-
 use arrayvec::ArrayVec;
 use calls::CallError;
 use std::io;
 use std::io::Write;
-use text::{Held, Number};
+use text::{Buffer, Words};
 use words::EncodeError;
 
-// The words of a line behind its name, as numbers; no call has one that is no number, or more than four.
-fn numbers(line: &[u8], from: usize) -> Result<ArrayVec<u64, 4>, CallError>
-    requires { from ≤ length line.now }
-{
+// The words of a line behind its name, as numbers; none where one is no number, or there are more than four.
+fn numbers(words: Words) -> Option<ArrayVec<u64, 4>> {
     let mut numbers = ArrayVec::new();
-    let mut at = from;
-    while numbers.len() < 4 {
-        let w = text::word_at(line, at);
-        let a = w.from;
-        let e = w.to;
-        if a == e {
-            return Ok(numbers);
-        }
-        match text::number_of(&line[a..e]) {
-            Number::Of(v) => numbers.push(v),
-            Number::Nothing => return Err(CallError::Unknown),
-        }
-        at = e;
+    for word in words {
+        numbers.try_push(text::number_of(word)?).ok()?;
     }
-    let rest = text::word_at(line, at);
-    if rest.from < rest.to {
-        return Err(CallError::Unknown);
-    }
-    Ok(numbers)
+    Some(numbers)
 }
 
 // What a line calls: a name and its numbers.
 fn called(line: &[u8]) -> Result<ArrayVec<u32, 4>, CallError> {
-    let w = text::word_at(line, 0);
-    let a = w.from;
-    let e = w.to;
-    let numbers = numbers(line, e)?;
-    calls::call(&line[a..e], numbers.as_slice())
+    let mut words = Words(line);
+    let name = words.next().ok_or(CallError::Unknown)?;
+    let numbers = numbers(words).ok_or(CallError::Unknown)?;
+    calls::call(name, numbers.as_slice())
 }
 
-fn put_refused(out: &mut [u8], e: EncodeError) -> usize {
-    let at = text::put_all(out, 0, b"refused ");
-    let end = text::put_decimal(out, at, u64::from(u32::from(e)));
-    text::put_all(out, end, b" 0\n")
+fn put_refused(out: &mut Buffer, e: EncodeError) {
+    out.put(b"refused ");
+    out.put_decimal(u64::from(u32::from(e)));
+    out.put(b" 0\n");
+}
+
+fn put_words(out: &mut Buffer, words: &[u32]) {
+    if words.is_empty() {
+        out.put(b"\n");
+    } else {
+        out.put_rows(words);
+    }
 }
 
 // Puts the line that answers a call.
-fn put_answer(out: &mut [u8], answer: Result<ArrayVec<u32, 4>, CallError>) -> usize {
+fn put_answer(out: &mut Buffer, answer: Result<ArrayVec<u32, 4>, CallError>) {
     match answer {
-        Ok(words) if words.is_empty() => text::put_all(out, 0, b"\n"),
-        Ok(words) => text::put_rows(out, 0, words.as_slice()),
-        Err(CallError::Unknown) => text::put_all(out, 0, b"unknown\n"),
+        Ok(words) => put_words(out, words.as_slice()),
+        Err(CallError::Unknown) => out.put(b"unknown\n"),
         Err(CallError::Refused(e)) => put_refused(out, e),
     }
 }
 
-fn write_answer<W: Write>(
-    to: &mut W,
-    answer: Result<ArrayVec<u32, 4>, CallError>,
-) -> io::Result<()> {
-    let mut out = [0u8; 64];
-    let n = put_answer(&mut out, answer);
-    let k = text::within(n, &out);
-    to.write_all(&out[..k])
-}
-
-// Writes the answer to a line that is held whole, or to one that was too long to be.
-pub fn answer<W: Write>(to: &mut W, line: &[u8], held: Held) -> io::Result<()> {
-    if held.long {
-        return write_answer(to, Err(CallError::Unknown));
-    }
-    let n = text::within(held.len, line);
-    write_answer(to, called(&line[..n]))
+// Writes the answer to a line, or to one that was too long to be held.
+pub fn answer<W: Write>(to: &mut W, line: Option<&[u8]>) -> io::Result<()> {
+    let mut room = [0u8; 64];
+    let mut out = Buffer::new(&mut room);
+    put_answer(&mut out, line.map_or(Err(CallError::Unknown), called));
+    to.write_all(out.written())
 }

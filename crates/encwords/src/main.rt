@@ -4,88 +4,63 @@
 
 mod answer;
 
-use input::Piece;
 use std::io;
 use std::io::{Read, Write};
-use text::Held;
 
-// What a read of the input left: the line whose end is still to come, or the last one.
-#[derive(Clone, Copy)]
-enum Turn {
-    More(Held),
-    Ended(Held),
+// The line that is being read: how many of its bytes stand in the lent buffer, or none where it is too long for that.
+#[derive(Drop)]
+struct Line<'a> {
+    bytes: &'a mut [u8],
+    len: Option<usize>,
+}
+
+impl<'a> Line<'a> {
+    fn keep(&mut self, part: &[u8]) {
+        self.len = text::keep(self.bytes, self.len, part);
+    }
+
+    // Answers the line, and begins the next.
+    fn answer<W: Write>(&mut self, to: &mut W) -> io::Result<()> {
+        let line = self.len.and_then(|len| self.bytes.get(..len));
+        answer::answer(to, line)?;
+        self.len = Some(0);
+        Ok(())
+    }
 }
 
 // Answers the lines that end in a piece of the input, and keeps the start of the next.
-fn answer_lines<W: Write>(
-    to: &mut W,
-    piece: &[u8],
-    line: &mut [u8],
-    held: Held,
-) -> io::Result<Held> {
-    let mut start = held;
-    let mut at = 0;
-    while at < piece.len() {
-        let end = text::line_end(piece, at);
-        start = text::keep(line, start, &piece[at..end]);
-        if piece.len() <= end {
-            return Ok(start);
-        }
-        answer::answer(to, line, start)?;
-        start = Held {
-            len: 0,
-            long: false,
-        };
-        at = end + 1;
+fn answer_lines<W: Write>(to: &mut W, piece: &[u8], line: &mut Line) -> io::Result<()> {
+    let mut rest = piece;
+    while let Some((end, behind)) = text::split_line(rest) {
+        line.keep(end);
+        line.answer(to)?;
+        rest = behind;
     }
-    Ok(start)
-}
-
-fn read_some<R: Read, W: Write>(
-    from: &mut R,
-    to: &mut W,
-    line: &mut [u8],
-    held: Held,
-) -> io::Result<Turn> {
-    let mut piece = [0u8; 4096];
-    match input::read_piece(from, &mut piece)? {
-        Piece::Bytes(n) => {
-            let k = text::within(n, &piece);
-            Ok(Turn::More(answer_lines(to, &piece[..k], line, held)?))
-        }
-        Piece::Ended => Ok(Turn::Ended(held)),
-    }
-}
-
-// The last line, if the input does not end with a line feed.
-fn answer_last<W: Write>(to: &mut W, line: &[u8], held: Held) -> io::Result<()> {
-    let len = held.len;
-    if 0 < len {
-        return answer::answer(to, line, held);
-    }
+    line.keep(rest);
     Ok(())
 }
 
-// A proved loop has to end, and nothing says that the input does: so the loop counts its turns, to a number that no run comes to.
-fn answer_all<R: Read, W: Write>(from: &mut R, to: &mut W, line: &mut [u8]) -> io::Result<()> {
-    let mut held = Held {
-        len: 0,
-        long: false,
-    };
+// The last line is answered too if the input does not end with a line feed. A proved loop has to end, and nothing says that the input does:
+// so the loop counts its turns, to a number that no run comes to.
+fn answer_all<R: Read, W: Write>(from: &mut R, to: &mut W, line: &mut Line) -> io::Result<()> {
     for _ in 0..u64::MAX {
-        match read_some(from, to, line, held)? {
-            Turn::More(h) => {
-                held = h;
+        let mut piece = [0u8; 4096];
+        let Some(n) = input::read_piece(from, &mut piece)? else {
+            if line.len != Some(0) {
+                line.answer(to)?;
             }
-            Turn::Ended(h) => {
-                return answer_last(to, line, h);
-            }
-        }
+            return Ok(());
+        };
+        answer_lines(to, &piece[..n], line)?;
     }
     Ok(())
 }
 
 fn main(rt: HostRuntime) -> io::Result<()> {
-    let mut line = [0u8; 4096];
+    let mut bytes = [0u8; 4096];
+    let mut line = Line {
+        bytes: &mut bytes,
+        len: Some(0),
+    };
     answer_all(&mut rt.reader(), &mut io::writer(&rt), &mut line)
 }

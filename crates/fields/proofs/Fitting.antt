@@ -13,7 +13,8 @@ use Rattle.block.specs.declared.Layout.{Layout}
 use Rattle.block.specs.declared.Memory.{Memory}
 use Rattle.block.specs.Block.{in_flash, no_guard}
 use Rattle.block.specs.Checked.{Place, Apart, LayoutFits, RegionFits, MemoryFits, AddressesFit, GuardFits}
-use Rattle.operands.proofs.Laws.{then-zero, gives-zero, not-true, and_true_both, or_false_both}
+use Rattle.faults.proofs.Laws.{then-zero, gives-zero}
+use Rattle.operands.proofs.Laws.{not-true, and_true_both, or_false_both}
 use Rattle.fields.specs.Fields.{◌gives◌, byte_at, num16, num32, num64, payload_length, payload, Span, span, spans, any, far, unaligned}
 use Rattle.fields.specs.Fields.{meets, overlap, layout_fault, memory_of, region_fault, memory_fault, addresses_of, inside_ram, start_fault}
 use Rattle.fields.specs.Fields.{start_of, guard_of, guard_at}

@@ -10,7 +10,8 @@ use native.Mathlib.Nat.{add-zero}
 use lib.ListN.{length, take, drop, length-take}
 use lib.Seq.{get_or-take, get_or-drop}
 use Rattle.block.specs.Block.{in_flash}
-use Rattle.operands.proofs.Laws.{then-zero, gives-zero, not-true, or_false_both}
+use Rattle.faults.proofs.Laws.{then-zero, gives-zero}
+use Rattle.operands.proofs.Laws.{not-true, or_false_both}
 use Rattle.fields.specs.Fields.{◌gives◌, byte_at, payload_length, payload, cut, field_fault, layout_field, memory_field}
 use Rattle.fields.specs.Fields.{addresses_field, start_of, start_field, guard_field}
 

@@ -9,7 +9,7 @@ use Rattle.block.specs.Block.{in_flash, no_guard}
 use Rattle.operands.specs.Kinds.{flag_of}
 pub use Rattle.operands.specs.Numbers.{byte_at}
 unfoldable pub use Rattle.operands.specs.Numbers.{num16, num32, num64}
-pub use Rattle.operands.specs.Faults.{◌gives◌, ◌then◌}
+pub use Rattle.faults.specs.Faults.{◌gives◌, ◌then◌}
 
 -- ---- a field: "a one-byte tag, a two-byte length, a payload"
 

@@ -3,44 +3,44 @@
 
 ghost use Rattle.std.specs.Prelude.{◌≡◌, false, ◌+◌, ◌≤◌, ◌<◌, length};
 ghost use Rattle.block.specs.Block.{in_flash};
-ghost use Rattle.fields.specs.Fields.{cut as is_cut, field_fault, layout_of, spans, span, any, far as is_far, unaligned, meets};
+ghost use Rattle.faults.specs.Faults.{fault_or_0};
+ghost use Rattle.fields.specs.Fields.{◌gives◌, cut as is_cut, field_fault, layout_of, spans, span, any, far as is_far, unaligned, meets};
 ghost use Rattle.fields.specs.Fields.{overlap as overlapping, layout_fault, layout_field, memory_of, region_fault, memory_fault};
 ghost use Rattle.fields.specs.Fields.{memory_field, addresses_of, addresses_field, inside_ram, start_of, start_fault, start_field};
 ghost use Rattle.fields.specs.Fields.{guard_of, guard_field, guard_at};
 
 use block::{Addresses, Guard, Layout, Memory, in_flash};
+use faults::Fault;
 use operands::{byte, get16, get32, get64};
 
 // Header or payload of the field at `at` cut, or the field missing.
-pub fn cut(s: &[u8], at: usize) -> bool
+pub fn cut(s: &[u8], at: usize) -> Result<(), Fault>
     requires { at ≤ length s.now }
-    ensures { result ≡ is_cut s.now at }
+    ensures { fault_or_0 result ≡ (is_cut s.now at gives 1) }
 {
     if s.len() - at < 3 {
-        return true;
+        return Err(Fault::Cut);
     }
     let n = get16(s, at + 1) as usize;
     if s.len() - at - 3 < n {
-        return true;
+        return Err(Fault::Cut);
     }
-    false
+    Ok(())
 }
 
 // Faults 1 and 2 of a field of fixed length.
-fn field_fault(s: &[u8], at: usize, tag: u8, len: u32) -> u32
+fn field_fault(s: &[u8], at: usize, tag: u8, len: u32) -> Result<(), Fault>
     requires { at ≤ length s.now }
-    ensures { result ≡ field_fault s.now at tag len }
+    ensures { fault_or_0 result ≡ field_fault s.now at tag len }
 {
-    if cut(s, at) {
-        return 1;
-    }
+    cut(s, at)?;
     if byte(s, at) != tag {
-        return 2;
+        return Err(Fault::Field);
     }
     if get16(s, at + 1) != len {
-        return 2;
+        return Err(Fault::Field);
     }
-    0
+    Ok(())
 }
 
 // ---- field 01
@@ -94,31 +94,25 @@ fn overlap(o: Layout) -> bool
 }
 
 // The whole layout is tested for 5, then for 14, then for 15.
-fn layout_fault(o: Layout) -> u32
-    ensures { result ≡ layout_fault o }
+fn layout_fault(o: Layout) -> Result<(), Fault>
+    ensures { fault_or_0 result ≡ layout_fault o }
 {
-    let far = any_far(o);
-    let unaligned = any_unaligned(o);
-    let overlapping = overlap(o);
-    if far {
-        return 5;
+    if any_far(o) {
+        return Err(Fault::Offset);
     }
-    if unaligned {
-        return 14;
+    if any_unaligned(o) {
+        return Err(Fault::Unaligned);
     }
-    if overlapping {
-        return 15;
+    if overlap(o) {
+        return Err(Fault::Overlap);
     }
-    0
+    Ok(())
 }
 
-pub fn layout_field(s: &[u8]) -> u32
-    ensures { result ≡ layout_field s.now }
+pub fn layout_field(s: &[u8]) -> Result<(), Fault>
+    ensures { fault_or_0 result ≡ layout_field s.now }
 {
-    let f = field_fault(s, 0, 1, 20);
-    if f != 0 {
-        return f;
-    }
+    field_fault(s, 0, 1, 20)?;
     layout_fault(layout_of(&s[3..23]))
 }
 
@@ -136,46 +130,37 @@ pub fn memory_of(p: &[u8]) -> Memory
     }
 }
 
-fn region_fault(base: u32, len: u32) -> u32
-    ensures { result ≡ region_fault base len }
+fn region_fault(base: u32, len: u32) -> Result<(), Fault>
+    ensures { fault_or_0 result ≡ region_fault base len }
 {
     if len < 4 {
-        return 6;
+        return Err(Fault::Region);
     }
     if base % 4 != 0 {
-        return 6;
+        return Err(Fault::Region);
     }
     if 4294967296 < (base as u64) + (len as u64) {
-        return 6;
+        return Err(Fault::Region);
     }
-    0
+    Ok(())
 }
 
-fn memory_fault(p: &[u8]) -> u32
-    ensures { result ≡ memory_fault p.now }
+fn memory_fault(p: &[u8]) -> Result<(), Fault>
+    ensures { fault_or_0 result ≡ memory_fault p.now }
 {
-    let ram = region_fault(get32(p, 0), get32(p, 4));
-    if ram != 0 {
-        return ram;
-    }
-    let xip = region_fault(get32(p, 8), get32(p, 12));
-    if xip != 0 {
-        return xip;
-    }
+    region_fault(get32(p, 0), get32(p, 4))?;
+    region_fault(get32(p, 8), get32(p, 12))?;
     if 1 < byte(p, 16) {
-        return 4;
+        return Err(Fault::Operand);
     }
-    0
+    Ok(())
 }
 
-pub fn memory_field(s: &[u8]) -> u32
+pub fn memory_field(s: &[u8]) -> Result<(), Fault>
     requires { 23 ≤ length s.now }
-    ensures { result ≡ memory_field s.now }
+    ensures { fault_or_0 result ≡ memory_field s.now }
 {
-    let f = field_fault(s, 23, 2, 17);
-    if f != 0 {
-        return f;
-    }
+    field_fault(s, 23, 2, 17)?;
     memory_fault(&s[26..43])
 }
 
@@ -191,9 +176,9 @@ pub fn addresses_of(p: &[u8]) -> Addresses
     }
 }
 
-pub fn addresses_field(s: &[u8]) -> u32
+pub fn addresses_field(s: &[u8]) -> Result<(), Fault>
     requires { 43 ≤ length s.now }
-    ensures { result ≡ addresses_field s.now }
+    ensures { fault_or_0 result ≡ addresses_field s.now }
 {
     field_fault(s, 43, 3, 24)
 }
@@ -207,23 +192,23 @@ fn inside_ram(m: Memory, a: u32) -> bool
 }
 
 // A flash start is tested for tag 06 alone.
-fn start_fault(m: Memory, s: &[u8], a: u32) -> u32
-    ensures { result ≡ start_fault m s.now a }
+fn start_fault(m: Memory, s: &[u8], a: u32) -> Result<(), Fault>
+    ensures { fault_or_0 result ≡ start_fault m s.now a }
 {
     let next = byte(s, 77) == 6;
     if in_flash(a) {
         if next {
-            return 16;
+            return Err(Fault::Guard);
         }
-        return 0;
+        return Ok(());
     }
     if !inside_ram(m, a) {
-        return 7;
+        return Err(Fault::Start);
     }
     if !next {
-        return 16;
+        return Err(Fault::Guard);
     }
-    0
+    Ok(())
 }
 
 // Where the block starts.
@@ -234,14 +219,11 @@ pub fn start_of(s: &[u8]) -> u32
     get32(&s[73..77], 0)
 }
 
-pub fn start_field(s: &[u8]) -> u32
+pub fn start_field(s: &[u8]) -> Result<(), Fault>
     requires { (70 ≤ length s.now) × (field_fault s.now 23 2 17 ≡ 0) }
-    ensures { result ≡ start_field s.now }
+    ensures { fault_or_0 result ≡ start_field s.now }
 {
-    let f = field_fault(s, 70, 4, 4);
-    if f != 0 {
-        return f;
-    }
+    field_fault(s, 70, 4, 4)?;
     start_fault(memory_of(&s[26..43]), s, start_of(s))
 }
 
@@ -257,9 +239,9 @@ fn guard_of(p: &[u8]) -> Guard
 }
 
 // Of a RAM block: a flash block has no such field.
-pub fn guard_field(s: &[u8]) -> u32
+pub fn guard_field(s: &[u8]) -> Result<(), Fault>
     requires { (77 ≤ length s.now) × (in_flash (start_of s.now) ≡ false) }
-    ensures { result ≡ guard_field s.now }
+    ensures { fault_or_0 result ≡ guard_field s.now }
 {
     field_fault(s, 77, 6, 16)
 }
@@ -270,7 +252,7 @@ pub fn guard_at(s: &[u8]) -> Guard
     ensures { result ≡ guard_at s.now }
 {
     if in_flash(start_of(s)) {
-        return Guard { at: 0, h_ram_ok: 0 };
+        return Guard::default();
     }
     guard_of(&s[80..96])
 }

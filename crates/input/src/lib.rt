@@ -3,81 +3,39 @@
 
 ghost use Rattle.std.specs.Prelude.{◌<◌, ◌≤◌, length, take, IfOk};
 ghost use Rattle.std.specs.Io.KnownBytes.{Consumes, IsAtEnd};
-ghost use Rattle.input.specs.Input.{Gives, HoldsAll, Turned};
+ghost use Rattle.input.specs.Input.{Gives, HoldsAll};
 
 use std::io;
 use std::io::{ErrorKind, Read};
-use text::Held;
 
-// What one read gave: bytes at the start of the piece, none where a signal interrupted it; or the input's end.
-#[derive(Clone, Copy)]
-pub enum Piece {
-    Bytes(usize),
-    Ended,
-}
-
-pub fn read_piece<R: Read>(from: &mut R, piece: &mut [u8]) -> io::Result<Piece>
+// Reads once, and answers how many bytes it put at the start of the piece, 0 where a signal interrupted it; none at the input's end.
+pub fn read_piece<R: Read>(from: &mut R, piece: &mut [u8]) -> io::Result<Option<usize>>
     ensures { IfOk result (Gives (R.remaining from.old) (R.remaining from.new) piece.new) }
 {
     match from.read(piece) {
-        Ok(0) => Ok(Piece::Ended),
-        Ok(n) => Ok(Piece::Bytes(n)),
-        Err(e) => {
-            if e.kind() == ErrorKind::Interrupted {
-                return Ok(Piece::Bytes(0));
-            }
-            Err(e)
-        }
+        Ok(0) => Ok(None),
+        Ok(n) => Ok(Some(n)),
+        Err(e) if e.kind() == ErrorKind::Interrupted => Ok(Some(0)),
+        Err(e) => Err(e),
     }
 }
 
-// The whole input: so many bytes at the start of a lent buffer, or more than it has room for.
-#[derive(Clone, Copy)]
-pub enum Whole {
-    Bytes(usize),
-    Long,
-}
-
-// What a read of the input left: more to read, or all of it.
-#[derive(Clone, Copy)]
-enum Turn {
-    More(usize),
-    Ended(Whole),
-}
-
-// Reads one piece and puts it behind the bytes that are there.
-fn read_more<R: Read>(from: &mut R, buf: &mut [u8], len: usize) -> io::Result<Turn>
-    ensures { IfOk result (λ t. len ≤ length buf.old → Turned (R.remaining from.old) (R.remaining from.new) buf.old buf.new len t) }
-{
-    let mut piece = [0u8; 4096];
-    match read_piece(from, &mut piece)? {
-        Piece::Bytes(n) => {
-            let k = text::within(n, &piece);
-            let held = text::keep(buf, Held { len, long: false }, &piece[..k]);
-            if held.long {
-                return Ok(Turn::Ended(Whole::Long));
-            }
-            Ok(Turn::More(held.len))
-        }
-        Piece::Ended => Ok(Turn::Ended(Whole::Bytes(len))),
-    }
-}
-
-// Reads the whole input, or as much as shows that it is too long. A proved loop has to end, and nothing says that the input does: so the
-// loop counts its turns, to a number that no run comes to.
-pub fn read_whole<R: Read>(from: &mut R, buf: &mut [u8]) -> io::Result<Whole>
+// Reads the whole input, and answers how many bytes it put at the buffer's start; none where it is longer than the buffer, of which as much
+// is read as shows that. A proved loop has to end, and nothing says that the input does: so the loop counts its turns, to a number that no
+// run comes to.
+pub fn read_whole<R: Read>(from: &mut R, buf: &mut [u8]) -> io::Result<Option<usize>>
     ensures { IfOk result (HoldsAll (R.remaining from.old) buf.new) }
 {
     let mut len = 0;
     for _ in 0..u64::MAX {
-        match read_more(from, buf, len)? {
-            Turn::More(n) => {
-                len = n;
-            }
-            Turn::Ended(whole) => {
-                return Ok(whole);
-            }
-        }
+        let mut piece = [0u8; 4096];
+        let Some(n) = read_piece(from, &mut piece)? else {
+            return Ok(Some(len));
+        };
+        let Some(end) = text::keep(buf, Some(len), &piece[..n]) else {
+            return Ok(None);
+        };
+        len = end;
     }
     Err(io::Error::other("the input does not end"))
 }
@@ -93,14 +51,10 @@ pub fn read_full<R: Read>(from: &mut R, buf: &mut [u8]) -> io::Result<usize>
         if buf.len() <= done {
             return Ok(done);
         }
-        match read_piece(from, &mut buf[done..])? {
-            Piece::Bytes(n) => {
-                done += n;
-            }
-            Piece::Ended => {
-                return Ok(done);
-            }
-        }
+        let Some(n) = read_piece(from, &mut buf[done..])? else {
+            return Ok(done);
+        };
+        done += n;
     }
     Err(io::Error::other("the input does not end"))
 }

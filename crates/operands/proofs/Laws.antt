@@ -1,11 +1,8 @@
--- Laws that several functions' proofs use: of selectors, and of faults one after the other.
+-- Laws that several functions' proofs use: of selectors, and of tests.
 use mathlib.Core.Path.{◌≡◌, refl, sym}
 use mathlib.Core.Bool.{Bool, true, false, not, ◌&&◌, ◌||◌}
-use mathlib.Core.List.{List}
 use Prim.Native.Nat.{ℕ, zero, suc, ◌≤◌, ◌<◌, zero-le}
 use native.Mathlib.Omega.{arith}
-use lib.ListN.{length, get_or, get_or-eq_default}
-use Rattle.operands.specs.Faults.{◌gives◌, ◌then◌}
 
 -- what the last arm of a match on 0, 1 .. knows
 abbrev pub Others : ℕ → ℕ → Type 0
@@ -20,23 +17,7 @@ above (suc k) x h = let g : k ≤ x = above k x h.0 in omega (arith, h.1)
 pub left_over : (k x : ℕ) → Others k x → x < suc k → x ≡ k
 left_over k x h l = let g : k ≤ x = above k x h in omega arith
 
--- ---- faults, one after the other
-
-pub then_none : (a b : ℕ) → a ≡ 0 → b ≡ (a then b)
-then_none a b e = rw e
-
-pub then_some : (a b : ℕ) → (a ≡ 0 → ⊥) → a ≡ (a then b)
-then_some zero b ne = absurd (ne refl)
-then_some (suc a) b ne = refl
-
--- no fault at all: none of the tests holds
-pub then-zero : (a b : ℕ) → (a then b) ≡ 0 → (a ≡ 0) × (b ≡ 0)
-then-zero zero b e = (refl, e)
-then-zero (suc a) b e = absurd (omega (arith, e))
-
-pub gives-zero : (t : Bool) (n : ℕ) → (t gives suc n) ≡ 0 → t ≡ false
-gives-zero true n e = absurd (omega (arith, e))
-gives-zero false n e = refl
+-- ---- tests
 
 pub not-true : (t : Bool) → not t ≡ false → t ≡ true
 not-true true e = refl

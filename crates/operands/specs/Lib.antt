@@ -1,4 +1,3 @@
-pub mod Faults
 pub mod Kinds
 pub mod Numbers
 pub mod Rows

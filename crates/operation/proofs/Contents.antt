@@ -8,10 +8,11 @@ use lib.Dec.{leb, ltb, eqb}
 use lib.ListN.{length}
 use Rattle.block.specs.declared.Memory.{Memory}
 use Rattle.block.specs.Block.{jumping, may_jump, moved}
-use Rattle.operands.specs.Faults.{◌gives◌}
+use Rattle.faults.specs.Faults.{◌gives◌}
 use Rattle.operands.specs.Kinds.{kinds, kind_at, fast_of}
 use Rattle.operands.specs.Numbers.{byte_at}
-use Rattle.operands.proofs.Laws.{then-zero, gives-zero, not-true}
+use Rattle.faults.proofs.Laws.{then-zero, gives-zero}
+use Rattle.operands.proofs.Laws.{not-true}
 use Rattle.operands.proofs.Table.{kind-number}
 use Rattle.operation.specs.Operation.{operands_fit, operands, too_long, contents_fault, operation_of}
 

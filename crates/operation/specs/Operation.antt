@@ -4,7 +4,7 @@ use Rattle.std.specs.Prelude.{Bool, true, not, ◌&&◌, ◌||◌, List, [], ◌
 use Rattle.block.specs.declared.BOp.{BOp}
 use Rattle.block.specs.declared.Memory.{Memory}
 use Rattle.block.specs.Block.{moved}
-use Rattle.operands.specs.Faults.{◌gives◌, ◌then◌}
+use Rattle.faults.specs.Faults.{◌gives◌, ◌then◌}
 use Rattle.operands.specs.Kinds.{Class, fits, flag_of, kinds, kind_at, fast_of}
 use Rattle.operands.specs.Numbers.{byte_at, num32}
 

@@ -23,7 +23,7 @@ pub fn moved(kind: u8, x: [u32; 6]) -> u32
     ensures { result ≡ moved_by (fast_of kind x) }
 {
     match kind {
-        40 => u32::count_ones(x[1] % 65536),
+        40 => (x[1] % 65536).count_ones(),
         41 => saved_and(low(x[0])),
         42 => saved_and(low(x[0])),
         43 => 2,

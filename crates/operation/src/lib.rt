@@ -1,22 +1,16 @@
-// The operand decoder: the payload of a field 05, read to an operation or to the number of its fault.
+// The operand decoder: the payload of a field 05, read to an operation or to its fault.
 #![tactic(auto)]
 
-ghost use Rattle.std.specs.Prelude.{◌≡◌};
+ghost use Rattle.std.specs.Prelude.{◌≡◌, IfOk};
+ghost use Rattle.faults.specs.Faults.{fault_or_0};
 ghost use Rattle.operation.specs.Operation.{operands, contents_fault, operation_of};
-ghost use Rattle.operation.specs.Judged.{judged};
 
 mod lengths;
 
 use crate::lengths::{moved, too_long};
 use block::{BOp, Memory};
+use faults::Fault;
 use operands::{byte, fast_of, get32, shape_of};
-
-// An operation, or the number of its fault.
-#[derive(Clone, Copy)]
-pub enum Operation {
-    Fault(u32),
-    Good(BOp),
-}
 
 // As many numbers as a kind may have.
 fn operands_of(p: &[u8]) -> [u32; 6]
@@ -34,39 +28,35 @@ fn operands_of(p: &[u8]) -> [u32; 6]
 
 // Kind, guest length, glue and operands of a payload, which is lent as a part of the record: `&s[from..end]`. A group is held to the
 // lengths of RAM and XIP.
-pub fn decode(m: Memory, p: &[u8]) -> Operation
-    ensures { result ≡ judged (contents_fault m p.now) (operation_of p.now) }
+pub fn decode(m: Memory, p: &[u8]) -> Result<BOp, Fault>
+    ensures fault { fault_or_0 result ≡ contents_fault m p.now }
+    ensures operation { IfOk result (λ o. o ≡ operation_of p.now) }
 {
     if p.len() < 3 {
-        return Operation::Fault(2);
+        return Err(Fault::Field);
     }
     let kind = byte(p, 0);
     if 50 <= kind {
-        return Operation::Fault(3);
+        return Err(Fault::Kind);
     }
     let x = operands_of(p);
     let shape = shape_of(kind, x);
     if p.len() != 3 + 4 * shape.count {
-        return Operation::Fault(2);
+        return Err(Fault::Field);
     }
     let glue = byte(p, 2);
     if 1 < glue {
-        return Operation::Fault(4);
+        return Err(Fault::Operand);
     }
     if !shape.fit {
-        return Operation::Fault(4);
-    }
-    let fast = fast_of(kind, x);
-    let op = BOp {
-        fast,
-        len: byte(p, 1),
-        glue: glue != 0,
-    };
-    if kind < 40 {
-        return Operation::Good(op);
+        return Err(Fault::Operand);
     }
     if too_long(m, moved(kind, x)) {
-        return Operation::Fault(4);
+        return Err(Fault::Operand);
     }
-    Operation::Good(op)
+    Ok(BOp {
+        fast: fast_of(kind, x),
+        len: byte(p, 1),
+        glue: glue != 0,
+    })
 }

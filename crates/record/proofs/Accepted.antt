@@ -19,7 +19,8 @@ use Rattle.block.specs.Block.{ops_of, moved, lengths, in_flash}
 use Rattle.block.specs.Checked.{BOpFits, OpsFit, NoneAfterJump, GroupFits, GroupsFit, Checked}
 use Rattle.operands.specs.Kinds.{fast_of}
 use Rattle.operation.specs.Operation.{operands}
-use Rattle.operands.proofs.Laws.{then-zero, or_false_both}
+use Rattle.faults.proofs.Laws.{then-zero}
+use Rattle.operands.proofs.Laws.{or_false_both}
 use Rattle.operation.proofs.Contents.{Contents}
 use Rattle.operation.proofs.Fitting.{fast-fits}
 use Rattle.fields.proofs.Fitting.{below_32, payload-bytes, layout-fits, memory-fits, addresses-fit, guard-fits, start_fits}

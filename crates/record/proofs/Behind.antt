@@ -6,11 +6,11 @@ use Prim.Native.Nat.{ℕ}
 use Rattle.block.specs.Block.{in_flash}
 use Rattle.fields.proofs.Laws.{no-guard}
 use Rattle.record.specs.Record.{start_of, layout_field, memory_field, addresses_field, start_field, guard_field, Reading, refused}
-use Rattle.record.specs.Record.{refused_or, operations, first_op, header, within_ram, reading}
+use Rattle.record.specs.Record.{refused_or, operations, first_op, header, in_ram, within_ram, reading}
 use Rattle.record.specs.Parts.{Faultless}
-use Rattle.record.proofs.Steps.{refuse, pass}
+use Rattle.record.proofs.Steps.{pass}
 
-behind : (s : List ℕ) → Faultless s → refused_or (guard_field s) 77 (within_ram s (operations 33 s (first_op s) (header s))) ≡ reading s
+pub behind : (s : List ℕ) → Faultless s → refused_or (guard_field s) 77 (within_ram s (operations 33 s (first_op s) (header s))) ≡ reading s
 unfolding reading
 behind s f =
     pass (start_field s) 70 _ refl f.start
@@ -30,8 +30,9 @@ flash-reading s f e =
     ∙ pass (guard_field s) 77 _ refl (no-guard s e)
     ∙ behind s f
 
-pub guard-refused : (s : List ℕ) {g : ℕ} → Faultless s → g ≡ guard_field s → (g ≡ 0 → ⊥) → refused g 77 ≡ reading s
-guard-refused s f e ne = refuse (guard_field s) 77 _ e ne ∙ behind s f
+pub refused_within : (s : List ℕ) (number place : ℕ) → in_flash (start_of s) ≡ false → refused number place ≡ within_ram s (refused number place)
+unfolding within_ram in_ram
+refused_within s number place e = rw e refl
 
 pub ram-reading : (s : List ℕ) → Faultless s → in_flash (start_of s) ≡ false → guard_field s ≡ 0
     → within_ram s (operations 33 s 96 (header s)) ≡ reading s

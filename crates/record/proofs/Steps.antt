@@ -1,6 +1,6 @@
 -- Operations, one after the other: what an operation without a fault satisfies, and how one more step of reading goes.
 use mathlib.Core.Path.{◌≡◌, refl, sym, ap, ap₂, ◌∙◌}
-use mathlib.Core.Bool.{Bool, false, not}
+use mathlib.Core.Bool.{Bool, true, false, not}
 use mathlib.Core.List.{List}
 use Prim.Native.Nat.{ℕ, zero, suc, ◌+◌, ◌-◌, ◌<◌, ◌≤◌}
 use native.Mathlib.Omega.{arith}
@@ -13,12 +13,14 @@ use Rattle.block.specs.declared.BOp.{BOp}
 use Rattle.block.specs.declared.Memory.{Memory}
 use Rattle.block.specs.declared.Block.{Block}
 use Rattle.block.specs.Block.{jumping, may_jump}
-use Rattle.operands.proofs.Laws.{then-zero, gives-zero}
-use Rattle.operation.specs.declared.Operation.TheVariants.{Fault, Good}
-use Rattle.operation.specs.Judged.{judged}
+use Rattle.std.proofs.Common.{Result, Ok, Err, is_ok}
+use Rattle.faults.specs.declared.Fault.{Fault}
+use Rattle.faults.specs.declared.Refusal.{Refusal}
+use Rattle.faults.specs.Faults.{fault_number, fault_or_0}
+use Rattle.faults.proofs.Laws.{then-zero, gives-zero, some_number}
 use Rattle.operation.proofs.Contents.{Contents, contents_of, jumps}
 use Rattle.record.specs.Record.{◌gives◌, byte_at, payload_length, payload, cut, operation_of, nop, last_jumps, operation_fault}
-use Rattle.record.specs.Record.{Answer, Accepted, Refused, Reading, accepted, empty, refused, refused_or, push, operations}
+use Rattle.record.specs.Record.{Accepted, Reading, accepted, refused, refused_or, push, operations}
 use Rattle.fields.proofs.Laws.{Whole, not_cut, payload_head}
 
 -- ---- an operation without a fault
@@ -56,6 +58,30 @@ pub pass : {f : ℕ} (g place : ℕ) (next : Reading) → f ≡ g → f ≡ 0 �
 unfolding refused_or
 pass {f} g place next e z = let y : g ≡ 0 = sym e ∙ z in rw y
 
+-- a fault, at this place
+abbrev pub placed : {A : Type 0} → ℕ → Result A Fault → Result A Refusal
+placed p (Ok x) = Ok x
+placed p (Err f) = Err (record { fault = f; place = p })
+
+pub found_at : {A : Type 0} (q : Result A Fault) (m : Result A Refusal) (e : Refusal) (p : ℕ) → m ≡ placed p q → m ≡ Err e
+    → (fault_or_0 q ≡ fault_number e.fault) × (e.place ≡ p)
+found_at (Ok x) m e p h k = let z : ◌≡◌ {A = ℕ} 0 1 = cc in absurd (omega arith)
+found_at (Err f) m e p h k =
+    let same : record { fault = f; place = p } ≡ e = cc in
+    (ap (λ (r : Refusal). fault_number r.fault) same, sym (ap (λ (r : Refusal). r.place) same))
+
+-- a field's fault, at the field's place, is where reading stops
+pub refused_at : {A : Type 0} (q : Result A Fault) (m : Result A Refusal) (e : Refusal) (g p : ℕ) (next : Reading)
+    → fault_or_0 q ≡ g → m ≡ placed p q → m ≡ Err e → refused (fault_number e.fault) e.place ≡ refused_or g p next
+refused_at q m e g p next w h k =
+    let f = found_at q m e p h k in
+    ap (refused (fault_number e.fault)) f.1 ∙ refuse g p next (sym f.0 ∙ w) (some_number e.fault)
+
+-- a test that has passed
+pub passed : {A : Type 0} (q : Result A Fault) {g : ℕ} → fault_or_0 q ≡ g → true ≡ is_ok q → g ≡ 0
+passed (Ok x) w h = sym w
+passed (Err f) w h = let z : ◌≡◌ {A = ℕ} 0 1 = cc in absurd (omega arith)
+
 -- a reading that is accepted was not refused at this place
 pub not_refused : (f place : ℕ) (next : Reading) → (refused_or f place next).answer ≡ Accepted → (f ≡ 0) × (refused_or f place next ≡ next)
 unfolding refused_or
@@ -69,18 +95,13 @@ last-jumps n ops o h = rw (add-one, get_or-set_same ops n o nop h)
 abbrev pub fault_at : List ℕ → ℕ → Block → ℕ
 fault_at s at b = operation_fault b.memory s at b.n (last_jumps b.n b.ops)
 
--- a block with so many operations
-abbrev pub counted : Block → ℕ → Block
-counted b n =
-    record { layout = b.layout; memory = b.memory; addresses = b.addresses; pc0 = b.pc0; guard = b.guard; ops = b.ops; n = n }
-
 ends : (k : ℕ) (s : List ℕ) (at : ℕ) (b : Block) → length s ≤ at → accepted b ≡ operations k s at b
 unfolding operations
 ends zero s at b h = refl
 ends (suc k) s at b h = rw (le-leb _ _ h)
 
-pub at-end : (s : List ℕ) (at n : ℕ) (b : Block) → length s ≤ at → accepted b ≡ operations (33 - n) s at b
-at-end s at n b h = ends (33 - n) s at b h
+pub at-end : (s : List ℕ) (at : ℕ) (b : Block) → length s ≤ at → accepted b ≡ operations (33 - b.n) s at b
+at-end s at b h = ends (33 - b.n) s at b h
 
 refuses : (k : ℕ) (s : List ℕ) (at : ℕ) (b : Block) → at < length s → (fault_at s at b ≡ 0 → ⊥)
     → refused (fault_at s at b) at ≡ operations (suc k) s at b
@@ -108,54 +129,40 @@ at_operation s at b m h e =
     ∙ goes_on (32 - b.n) s at b h e
     ∙ ap (λ (j : ℕ). operations j s at b) (sym (fuel b.n l))
 
-judged-fault : (f : ℕ) (o : BOp) (number : ℕ) → judged f o ≡ Fault number → (f ≡ number) × (f ≡ 0 → ⊥)
-judged-fault zero o number e = let z : ◌≡◌ {A = ℕ} 0 1 = cc in absurd (omega arith)
-judged-fault (suc f) o number e = (cc, λ z. omega arith)
-
-pub judged-good : (f : ℕ) (o q : BOp) → judged f o ≡ Good q → (f ≡ 0) × (q ≡ o)
-judged-good zero o q e = (refl, cc)
-judged-good (suc f) o q e = let z : ◌≡◌ {A = ℕ} 0 1 = cc in absurd (omega arith)
-
-abbrev pub with_answer : Answer → Block → Reading
-with_answer a b = record { answer = a; block = b }
-
 -- the loop, left at a fault
 pub at_refusal :
-    (m : Memory) (s : List ℕ) (at n : ℕ) (b none : Block) (jumped : Bool) (number : ℕ)
-    → at < length s → n ≤ 32 → m ≡ b.memory → jumped ≡ last_jumps n b.ops → none ≡ empty
-    → judged (operation_fault m s at n jumped) (operation_of (payload s at)) ≡ Fault number
-    → with_answer (Refused number at) (counted none 0) ≡ operations (33 - n) s at (counted b n)
-at_refusal m s at n b none jumped number inside room home before e h =
-    let f = judged-fault (operation_fault m s at n jumped) _ number h in
-    let same = ap₂ (λ (x : Memory) (j : Bool). operation_fault x s at n j) home before in
-    ap₂ (λ (k : ℕ) (x : Block). with_answer (Refused k at) (counted x 0)) (sym f.0 ∙ same) e
-    ∙ at_fault s at (counted b n) room inside (λ z. f.1 (same ∙ z))
+    (s : List ℕ) (at : ℕ) (b : Block) (jumped : Bool) (f : Fault)
+    → at < length s → b.n ≤ 32 → jumped ≡ last_jumps b.n b.ops
+    → fault_number f ≡ operation_fault b.memory s at b.n jumped
+    → refused (fault_number f) at ≡ operations (33 - b.n) s at b
+at_refusal s at b jumped f inside room before e =
+    let same = e ∙ ap (operation_fault b.memory s at b.n) before in
+    ap (λ (k : ℕ). refused k at) same ∙ at_fault s at b room inside (λ z. some_number f (same ∙ z))
 
 -- the loop's invariant, one operation on
 pub again :
-    (m : Memory) (s : List ℕ) (at n : ℕ) (b : Block) (jumped : Bool) (r : Reading)
-    → at < length s → n ≤ 32 → length b.ops ≡ 32 → m ≡ b.memory → jumped ≡ last_jumps n b.ops
-    → operations (33 - n) s at (counted b n) ≡ r
-    → (o : BOp) → judged (operation_fault m s at n jumped) (operation_of (payload s at)) ≡ Good o
+    (s : List ℕ) (at : ℕ) (b : Block) (jumped : Bool) (r : Reading)
+    → at < length s → length b.ops ≡ 32 → jumped ≡ last_jumps b.n b.ops
+    → operations (33 - b.n) s at b ≡ r
+    → operation_fault b.memory s at b.n jumped ≡ 0
+    → (o : BOp) → o ≡ operation_of (payload s at)
     → (k : ℕ) → k ≡ byte_at s (at + 3)
     → (size : ℕ) → size ≡ payload_length s at
     → (at + 3 + size ≤ length s)
-    × (n + 1 ≤ 32)
-    × (length (set b.ops n o) ≡ 32)
-    × (jumping k ≡ last_jumps (n + 1) (set b.ops n o))
-    × (operations (33 - (n + 1)) s (at + 3 + size) (push (counted b n) o) ≡ r)
-again m s at n b jumped r inside room full home before so_far o eo k ek size esize =
-    let j = judged-good (operation_fault m s at n jumped) _ o eo in
-    let g = good m s at n jumped j.0 in
-    let h : n < length b.ops = omega (arith, g.room, full) in
-    let same = ap₂ (λ (x : Memory) (y : Bool). operation_fault x s at n y) home before in
+    × (b.n + 1 ≤ 32)
+    × (length (set b.ops b.n o) ≡ 32)
+    × (jumping k ≡ last_jumps (b.n + 1) (set b.ops b.n o))
+    × (operations (33 - (b.n + 1)) s (at + 3 + size) (push b o) ≡ r)
+again s at b jumped r inside full before so_far none o eo k ek size esize =
+    let g = good b.memory s at b.n jumped none in
+    let h : b.n < length b.ops = omega (arith, g.room, full) in
     let kind : k ≡ byte_at (payload s at) 0 = ek ∙ sym (payload_head s at g.contents.long) in
-    let jump = jumps (payload s at) g.contents.kind ∙ ap (λ (q : BOp). may_jump q.fast) (sym j.1) in (
+    let jump = jumps (payload s at) g.contents.kind ∙ ap (λ (q : BOp). may_jump q.fast) (sym eo) in (
       rw esize g.whole.inside,
       omega (arith, g.room),
-      length-set b.ops n o ∙ full,
-      ap jumping kind ∙ jump ∙ sym (last-jumps n b.ops o h),
-      ap₂ (λ (i : ℕ) (q : BOp). operations (33 - (n + 1)) s (at + 3 + i) (push (counted b n) q)) esize j.1
-          ∙ at_operation s at (counted b n) g.room inside (sym same ∙ j.0)
+      length-set b.ops b.n o ∙ full,
+      ap jumping kind ∙ jump ∙ sym (last-jumps b.n b.ops o h),
+      ap₂ (λ (i : ℕ) (q : BOp). operations (33 - (b.n + 1)) s (at + 3 + i) (push b q)) esize eo
+          ∙ at_operation s at b g.room inside (ap (operation_fault b.memory s at b.n) (sym before) ∙ none)
           ∙ so_far,
     )

@@ -1,5 +1,4 @@
--- The operations of a RAM block, one after the other, up to RAM's end: one step, where the i-th operation and those behind it are a slice
--- of the block's; what reading gives has room for the walk; and where the walk is accepted, the operations end inside RAM.
+-- The operations of a RAM block, one after the other, up to RAM's end: one step, at the i-th operation; what reading gives has room for the walk; and where the walk is accepted, the operations end inside RAM.
 use mathlib.Core.Path.{◌≡◌, refl, ◌∙◌}
 use mathlib.Core.Bool.{Bool, true, false}
 use mathlib.Core.List.{List, [], ◌∷◌}
@@ -8,12 +7,12 @@ use native.Mathlib.Omega.{arith}
 use native.Mathlib.Numerals.{add-one}
 use borrow.Author.Tests.{ltb-false, lt-ltb, le-ltb}
 use lib.Dec.{leb, ltb}
-use lib.ListN.{length, get_or, length-set}
-use lib.Seq.{slice, slice_empty, slice-cons}
+use lib.ListN.{length, get_or, drop, length-set, drop_of_length-le}
+use lib.Seq.{drop-cons}
 use Rattle.block.specs.declared.BOp.{BOp}
 use Rattle.block.specs.declared.Block.{Block}
 use Rattle.block.specs.Block.{lengths}
-use Rattle.operands.proofs.Laws.{gives-zero}
+use Rattle.faults.proofs.Laws.{gives-zero}
 use Rattle.record.specs.Record.{◌gives◌, payload_length, payload, operation_of, nop, last_jumps, Reading, Accepted, empty, refused}
 use Rattle.record.specs.Record.{refused_or, push, end_or, operations, in_ram}
 use Rattle.record.specs.Parts.{Roomy}
@@ -23,26 +22,24 @@ use Rattle.record.proofs.Steps.{good, fault_at, not_refused}
 
 -- the i-th operation ends inside RAM
 pub inside :
-    (ops : List BOp) (n i : ℕ) (s : List ℕ) (at room : ℕ) (r : Reading) → i < n → n ≤ length ops
-    → (len : ℕ) → len ≡ (get_or ops i nop).len → len ≤ room
+    (os : List BOp) (i : ℕ) (s : List ℕ) (at room : ℕ) (r : Reading) → i < length os → (get_or os i nop).len ≤ room
     → (size : ℕ) → size ≡ payload_length s at
-    → in_ram (slice (i + 1) n ops) s (at + 3 + size) (room - len) r ≡ in_ram (slice i n ops) s at room r
+    → in_ram (drop (i + 1) os) s (at + 3 + size) (room - (get_or os i nop).len) r ≡ in_ram (drop i os) s at room r
 unfolding in_ram refused_or
-inside ops n i s at room r l m len e h size es = rw (slice-cons i n ops nop l m, add-one i, ← e, es, le-ltb room len h)
+inside os i s at room r l h size es = rw (drop-cons os i nop l, add-one i, es, le-ltb room _ h)
 
 -- the i-th operation reaches past RAM's end
 pub past :
-    (ops : List BOp) (n i : ℕ) (s : List ℕ) (at room : ℕ) (r : Reading) → i < n → n ≤ length ops
-    → (len : ℕ) → len ≡ (get_or ops i nop).len → room < len
-    → refused 17 at ≡ in_ram (slice i n ops) s at room r
+    (os : List BOp) (i : ℕ) (s : List ℕ) (at room : ℕ) (r : Reading) → i < length os → room < (get_or os i nop).len
+    → refused 17 at ≡ in_ram (drop i os) s at room r
 unfolding in_ram refused_or
-past ops n i s at room r l m len e h = rw (slice-cons i n ops nop l m, ← e, lt-ltb room len h)
+past os i s at room r l h = rw (drop-cons os i nop l, lt-ltb room _ h)
 
 -- no operation is left
 pub none_left :
-    (ops : List BOp) (n i : ℕ) (s : List ℕ) (at room : ℕ) (r : Reading) → i ≡ n → r ≡ in_ram (slice i n ops) s at room r
+    (os : List BOp) (i : ℕ) (s : List ℕ) (at room : ℕ) (r : Reading) → length os ≤ i → r ≡ in_ram (drop i os) s at room r
 unfolding in_ram
-none_left ops n i s at room r e = rw (e, slice_empty n ops)
+none_left os i s at room r e = rw (drop_of_length-le os e)
 
 -- ---- what reading gives
 

@@ -1,20 +1,19 @@
 -- Reading a block record, from document 01's "The block record" and "Faults, in order": the checked block, or the number and place of
 -- the first fault. A fault's number is 0 where there is none.
 use Rattle.std.specs.Prelude.{◌≡◌, Bool, true, false, cond, not, ◌||◌, leb, ltb, eqb, ℕ, zero, suc, ◌+◌, ◌-◌, ◌≤◌}
-use Rattle.std.specs.Prelude.{List, [], ◌∷◌, length, get_or, set, replicate}
+use Rattle.std.specs.Prelude.{List, [], ◌∷◌, length, get_or, set, replicate, Result, Ok, Err}
 use Rattle.block.specs.declared.Fast.TheVariants.{Nop}
 use Rattle.block.specs.declared.BOp.{BOp}
 use Rattle.block.specs.declared.Memory.{Memory}
 use Rattle.block.specs.declared.Block.{Block}
 use Rattle.block.specs.Block.{ops_of, may_jump, in_flash, no_guard}
+use Rattle.faults.specs.declared.Refusal.{Refusal}
+use Rattle.faults.specs.Faults.{fault_number}
 unfoldable pub use Rattle.operation.specs.Operation.{contents_fault, operation_of}
 pub use Rattle.fields.specs.Fields.{byte_at, ◌gives◌, ◌then◌, payload_length, payload, cut, layout_of, memory_of, addresses_of, guard_of}
 pub use Rattle.fields.specs.Fields.{inside_ram, guard_next, start_of, guard_at, first_op}
 unfoldable pub use Rattle.fields.specs.Fields.{num16, num32, num64, field_fault, layout_fault, region_fault, memory_fault, start_fault}
 unfoldable pub use Rattle.fields.specs.Fields.{layout_field, memory_field, addresses_field, start_field, guard_field}
-pub use Rattle.record.specs.declared.Answer.{Answer}
-pub use Rattle.record.specs.declared.Answer.TheVariants.{Accepted, Refused}
-pub use Rattle.record.specs.declared.Reading.{Reading}
 
 -- ---- fields 01 to 04 and 06 stand in crates/fields/specs/Fields.antt, the contents of field 05 in crates/operation/specs/Operation.antt
 
@@ -38,6 +37,16 @@ operation_fault m s at n jumped =
 
 -- ---- the record
 
+-- what reading finds: a checked block, or a fault by number and place
+pub data Answer : Type 0 where
+  Accepted : Answer
+  Refused : (number place : ℕ) → Answer
+
+-- the answer, with the block where it is accepted
+pub record Reading : Type 0 where
+  pub answer : Answer
+  pub block : Block
+
 abbrev pub accepted : Block → Reading
 accepted b = record { answer = Accepted; block = b }
 
@@ -56,6 +65,16 @@ empty =
 
 abbrev pub refused : ℕ → ℕ → Reading
 refused number place = record { answer = Refused number place; block = empty }
+
+-- what `read` has found, in this paper's numbers
+abbrev pub found : Result Block Refusal → Reading
+found (Ok b) = accepted b
+found (Err r) = refused (fault_number r.fault) r.place
+
+-- the same of a step of reading, which leaves this block
+abbrev pub found_in : Result (Unit {0}) Refusal → Block → Reading
+found_in (Ok done) b = accepted b
+found_in (Err r) b = refused (fault_number r.fault) r.place
 
 -- refused at a place, or what follows
 unfoldable pub refused_or : ℕ → ℕ → Reading → Reading

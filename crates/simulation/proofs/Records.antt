@@ -3,8 +3,7 @@ use mathlib.Core.Path.{◌≡◌}
 use mathlib.Core.List.{List}
 use Prim.Native.Nat.{ℕ}
 use lib.ListN.{length}
-use Rattle.record.specs.declared.Answer.TheVariants.{Accepted}
-use Rattle.record.specs.Record.{reading}
+use Rattle.record.specs.Record.{Accepted, reading}
 use Rattle.record.proofs.Accepted.{Bytes, read-checked}
 use Rattle.machine.specs.State.{State, xip}
 use Rattle.machine.specs.Memory.{bytes_of}

@@ -1,53 +1,55 @@
 -- One turn of reading digits: the byte at hand is no digit, makes the number too large, or is taken into it.
-use Prim.Native.Nat.{ℕ, ◌+◌, ◌-◌, ◌*◌, ◌/◌, ◌≤◌, ◌<◌}
-use mathlib.Core.Path.{◌≡◌}
-use mathlib.Core.List.{List}
+use Prim.Native.Nat.{ℕ, ◌+◌, ◌*◌, ◌≤◌, ◌<◌}
+use mathlib.Core.Path.{◌≡◌, refl}
+use mathlib.Core.List.{List, [], ◌∷◌}
 use native.Mathlib.Numerals.{add-one}
-use native.Mathlib.Omega.{arith}
-use native.Mathlib.Nat.{le-div_iff_mul-le, div-lt_iff_lt-mul}
 use lib.ListN.{length, get_or, drop, drop_of_length-le}
 use lib.Seq.{drop-cons}
 use borrow.Author.Tests.{le-leb, lt-leb, lt-ltb, le-ltb}
-use Rattle.text.specs.declared.number.Number.TheVariants.{Of, Nothing}
+use Rattle.std.specs.Prelude.{Some, None}
+use Rattle.std.specs.Char.{digit_value}
+use Rattle.std.proofs.Common.{rules, tests, arith}
 use Rattle.text.specs.Number.{digit_of, more, whole}
 
--- the test that the code makes before it multiplies
-module _ (limit base d v : ℕ) (pos : 0 < base) (small : d ≤ limit) where
-  pub over : (limit - d) / base < v → limit < v * base + d
-  over h = let m = (div-lt_iff_lt-mul pos).0 h in omega arith
+-- the digits below a base of at most 16 are those of the library
+module _ (base b : ℕ) (h : base ≤ 16) where
+  no_digit : (digit_value b < base → ⊥) → base ≤ digit_of b
+  unfolding digit_of
+  no_digit p = search (rules, tests)
 
-  pub room : v ≤ (limit - d) / base → v * base + d ≤ limit
-  room h = let m = (le-div_iff_mul-le pos).0 h in omega arith
+  a_digit : {d : ℕ} → (digit_value b < base) × (d ≡ digit_value b) → (digit_of b < base) × (digit_of b ≡ d)
+  unfolding digit_of
+  a_digit p = search (rules, tests)
 
-module _ (base limit v : ℕ) (s : List ℕ) (i : ℕ) (h : i < length s) where
-  pub none : base ≤ digit_of (get_or s i 0) → Nothing ≡ more base limit v (drop i s)
+module _ (base limit v : ℕ) (s : List ℕ) (i : ℕ) (h : i < length s) (small : base ≤ 16) where
+  pub none : (digit_value (get_or s i 0) < base → ⊥) → None ≡ more base limit v (drop i s)
   unfolding more
-  none p = rw (drop-cons s i 0 h, le-leb base (digit_of (get_or s i 0)) p)
+  none p = rw (drop-cons s i 0 h, le-leb base (digit_of (get_or s i 0)) (no_digit base (get_or s i 0) small p))
 
-  pub large : digit_of (get_or s i 0) < base → limit < v * base + digit_of (get_or s i 0) → Nothing ≡ more base limit v (drop i s)
+  module _ (d : ℕ) (p : (digit_value (get_or s i 0) < base) × (d ≡ digit_value (get_or s i 0))) where
+    pub large : limit < v * base + d → None ≡ more base limit v (drop i s)
+    unfolding more
+    large q =
+        let (p, e) = a_digit base (get_or s i 0) small p in
+        rw (drop-cons s i 0 h, lt-leb base (digit_of (get_or s i 0)) p, e, lt-ltb limit (v * base + d) q)
+
+    pub taken : v * base + d ≤ limit → more base limit v (drop i s) ≡ more base limit (v * base + d) (drop (i + 1) s)
+    unfolding more
+    taken q =
+        let (p, e) = a_digit base (get_or s i 0) small p in
+        rw (add-one i, drop-cons s i 0 h, lt-leb base (digit_of (get_or s i 0)) p, e, le-ltb limit (v * base + d) q)
+
+module _ (base limit : ℕ) where
+  pub ended : (s : List ℕ) (i v : ℕ) → length s ≤ i → more base limit v (drop i s) ≡ Some v
   unfolding more
-  large p q =
-      rw
-      (drop-cons s i 0 h, lt-leb base (digit_of (get_or s i 0)) p, lt-ltb limit (v * base + digit_of (get_or s i 0)) q)
+  ended s i v h = rw (drop_of_length-le s h)
 
-  pub taken :
-      digit_of (get_or s i 0) < base
-      → v * base + digit_of (get_or s i 0) ≤ limit
-      → more base limit v (drop i s) ≡ more base limit (v * base + digit_of (get_or s i 0)) (drop (i + 1) s)
-  unfolding more
-  taken p q =
-      rw
-      (add-one i, drop-cons s i 0 h, lt-leb base (digit_of (get_or s i 0)) p, le-ltb limit (v * base + digit_of (get_or s i 0)) q)
-
-module _ (base limit : ℕ) (s : List ℕ) (i : ℕ) where
-  pub ended : (v : ℕ) → length s ≤ i → more base limit v (drop i s) ≡ Of v
-  unfolding more
-  ended v h = rw (drop_of_length-le s h)
-
-  pub empty : length s ≤ i → Nothing ≡ whole base limit (drop i s)
+  pub empty : (s : List ℕ) → length s ≡ 0 → None ≡ whole base limit s
   unfolding whole
-  empty h = rw (drop_of_length-le s h)
+  empty [] h = refl
+  empty (b ∷ s) h = absurd (omega arith)
 
-  pub begun : i < length s → more base limit 0 (drop i s) ≡ whole base limit (drop i s)
+  pub begun : (s : List ℕ) → (length s ≡ 0 → ⊥) → more base limit 0 s ≡ whole base limit s
   unfolding whole
-  begun h = rw (drop-cons s i 0 h)
+  begun [] h = absurd (h refl)
+  begun (b ∷ s) h = refl

@@ -2,9 +2,7 @@ mod Decimal
 mod Digits
 mod Eight
 pub mod Placed
-mod Room
+mod Prefixes
 mod Rows
 mod Search
 mod Sets
-pub mod Signs
-mod Words

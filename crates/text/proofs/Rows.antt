@@ -3,10 +3,11 @@ use Prim.Native.Nat.{ℕ, suc, ◌+◌, ◌-◌, ◌≤◌, ◌<◌}
 use mathlib.Core.Path.{◌≡◌, ap, sym, ◌∙◌}
 use mathlib.Core.List.{List, [], ◌∷◌, ◌++◌}
 use native.Mathlib.Numerals.{add-one}
-use native.Mathlib.Omega.{arith}
 use lib.ListN.{length, get_or, drop, drop_of_length-le, length-drop}
 use lib.Seq.{drop-cons}
-use Rattle.text.specs.Put.{hex8, separator_of, rows, Placed}
+use Rattle.text.specs.declared.put.Buffer.{Buffer}
+use Rattle.text.specs.Put.{hex8, separator_of, rows}
+use Rattle.text.specs.Buffer.{Puts}
 use Rattle.text.proofs.Placed.{nothing, then}
 
 module _ (words : List ℕ) (i : ℕ) where
@@ -27,26 +28,21 @@ module _ (words : List ℕ) (i : ℕ) where
   unfolding rows
   rows_done h = rw (drop_of_length-le words h)
 
--- the words from i on, put at end, are all that is left to do
-pub record Left (words out₀ : List ℕ) (at : ℕ) (out : List ℕ) (end i : ℕ) : Type 0 where
-  pub same : length out ≡ length out₀
-  pub inside : i ≤ length words
-  pub rest : (last : List ℕ) (r : ℕ) → Placed (rows i (drop i words)) out end last r → Placed (rows 0 words) out₀ at last r
+-- the words from i on are all that is left to put
+pub record Left (words : List ℕ) (a b : Buffer) (i : ℕ) : Type 0 where
+  pub rest : (c : Buffer) → Puts (rows i (drop i words)) b c → Puts (rows 0 words) a c
 
-module _ (words out₀ : List ℕ) (at : ℕ) (out : List ℕ) (end i : ℕ) (l : Left words out₀ at out end i) where
+pub start : (words : List ℕ) (a : Buffer) → Left words a a 0
+start words a = record { rest = λ c p. p }
+
+module _ (words : List ℕ) (a b : Buffer) (i : ℕ) (l : Left words a b i) where
   pub step :
-      (mid : List ℕ) (b sep : ℕ)
+      (c : Buffer) (sep : ℕ)
       → i < length words
       → sep ≡ separator_of i (length words - i)
-      → Placed (hex8 (get_or words i 0) ++ (sep ∷ [])) out end mid b
-      → length mid ≡ length out
-      → Left words out₀ at mid b (i + 1)
-  step mid b sep h s p m =
-      record {
-        same = m ∙ l.same;
-        inside = omega arith;
-        rest = λ last r q. l.rest last r (rw (rows_more words i h) (then m (rw s at p) q));
-      }
+      → Puts (hex8 (get_or words i 0) ++ (sep ∷ [])) b c
+      → Left words a c (i + 1)
+  step c sep h s p = record { rest = λ d q. l.rest d (rw (rows_more words i h) (then (rw s at p) q)) }
 
-  pub done : length words ≤ i → Placed (rows 0 words) out₀ at out end
-  done h = l.rest out end (rw (rows_done words i h) (nothing out end))
+  pub done : length words ≤ i → Puts (rows 0 words) a b
+  done h = l.rest b (rw (rows_done words i h) (nothing b))

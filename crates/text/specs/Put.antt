@@ -1,8 +1,8 @@
 -- What writing into a lent buffer leaves.
-use Rattle.std.specs.Prelude.{ℕ, zero, suc, ◌+◌, ◌-◌, ◌/◌, ◌%◌, ◌≤◌, ◌≡◌, Bool, false, not, cond}
-use Rattle.std.specs.Prelude.{List, [], ◌∷◌, ◌++◌, ltb, leb, eqb, length}
+use Rattle.std.specs.Prelude.{ℕ, zero, suc, ◌+◌, ◌-◌, ◌/◌, ◌%◌, ◌<◌, ◌≤◌, ◌≡◌, cond, Some, None}
+use Rattle.std.specs.Prelude.{List, [], ◌∷◌, ◌++◌, ltb, eqb, length}
 use Rattle.std.proofs.lemmas.List.Edits.{sets}
-use Rattle.text.specs.declared.put.Held.{Held}
+use Rattle.std.specs.declared.option.Option.{Option}
 use Rattle.io.specs.Digits.{hex_digit_ascii, last_digits}
 
 -- r is the position behind k bytes at at, in a buffer of room bytes: behind all of them where there is room, and never past the end
@@ -24,15 +24,12 @@ decimal_in (suc most) n = cond (ltb n 10) (hex_digit_ascii n ∷ []) (decimal_in
 unfoldable pub decimal : ℕ → List ℕ
 decimal n = decimal_in 20 n
 
--- whether the bytes of part find room in the line behind those that are held
-unfoldable pub fits : Held → List ℕ → List ℕ → Bool
-fits h line part = cond h.long false (leb (h.len + length part) (length line))
-
--- they stand there if they do; if not, the line is too long and stays as it is
-pub record Kept (h : Held) (line part last : List ℕ) (r : Held) : Type 0 where
-  pub long : r.long ≡ not (fits h line part)
-  pub len : r.len ≡ cond (fits h line part) (h.len + length part) h.len
-  pub bytes : last ≡ cond (fits h line part) (sets line h.len part) line
+-- the bytes of part find room in the line behind those that are held, and stand there; or there is no room, or was none before, and the
+-- line stays as it is
+abbrev pub Kept : (held : Option ℕ) (line part last : List ℕ) → Option ℕ → Type 0
+Kept held line part last (Some r) =
+    (len : ℕ) × (held ≡ Some len) × (len + length part ≤ length line) × (r ≡ len + length part) × (last ≡ sets line len part)
+Kept held line part last None = (last ≡ line) × ((len : ℕ) → held ≡ Some len → length line < len + length part)
 
 -- what stands behind the word at position i of a listing, of which left words are left: a line feed (10) behind the fifth of a line and
 -- behind the last, a blank (32) behind any other

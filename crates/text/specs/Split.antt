@@ -1,24 +1,33 @@
 -- The lines and the words of a text, as lists of bytes.
-use Rattle.std.specs.Prelude.{ℕ, suc, ◌+◌, ◌-◌, ◌≤◌, ◌≡◌, Bool, true, false, not, cond, List, [], ◌∷◌, length, drop, ltb, eqb}
-use Rattle.text.specs.declared.split.Stop.{Stop}
-use Rattle.text.specs.declared.split.Stop.TheVariants.{LineFeed, Blank, Other}
+use Rattle.std.specs.Prelude.{ℕ, ◌<◌, ◌≡◌, Bool, true, false, not, cond, List, [], length, drop, ltb, eqb}
+use Rattle.std.specs.List.{position_or_len, before_first, after_first}
+
+abbrev pub line_feed : ℕ → Bool
+line_feed b = eqb b 10
 
 -- tab, line feed, vertical tab, form feed, carriage return, space
 abbrev pub blank : ℕ → Bool
 blank b = cond (eqb b 32) true (cond (ltb b 9) false (ltb b 14))
 
-abbrev pub stop : Stop → ℕ → Bool
-stop LineFeed b = eqb b 10
-stop Blank b = blank b
-stop Other b = not (blank b)
+-- s has no line feed
+abbrev pub IsLastLine : List ℕ → Type 0
+IsLastLine s = position_or_len line_feed s ≡ length s
 
--- how many bytes stand before the first at which p holds; all of them where there is none
-unfoldable pub before : (ℕ → Bool) → List ℕ → ℕ
-before p [] = 0
-before p (b ∷ bs) = cond (p b) 0 (suc (before p bs))
+-- what stands before the first line feed of s, which has one, and what stands behind that
+pub record IsLine (s line rest : List ℕ) : Type 0 where
+  pub ended : position_or_len line_feed s < length s
+  pub before : line ≡ before_first line_feed s
+  pub behind : rest ≡ after_first line_feed s
 
--- r is the first position of s from at on that stops the search; it lies within the text, unless at does not
-pub record Within (w : Stop) (s : List ℕ) (at r : ℕ) : Type 0 where
-  pub place : r ≡ at + before (stop w) (drop at s)
-  pub after : at ≤ r
-  pub inside : r ≤ at + (length s - at)
+-- s from its first byte on that is no blank
+abbrev pub trimmed : List ℕ → List ℕ
+trimmed s = drop (position_or_len (λ b. not (blank b)) s) s
+
+abbrev pub IsBlank : List ℕ → Type 0
+IsBlank s = trimmed s ≡ []
+
+-- the bytes from there to the next blank, of which there are some, and what stands behind them
+pub record IsWord (s word rest : List ℕ) : Type 0 where
+  pub some : 0 < length word
+  pub before : word ≡ before_first blank (trimmed s)
+  pub behind : rest ≡ drop (position_or_len blank (trimmed s)) (trimmed s)

@@ -1,87 +1,86 @@
-// Writing text into a lent buffer. Each function takes the position to write at and answers the one behind what it wrote.
-ghost use Rattle.std.specs.Prelude.{◌≡◌, ◌≤◌, min, [], ◌∷◌, ◌++◌, length};
+// Writing text into a lent buffer.
+ghost use Rattle.std.specs.Prelude.{◌≡◌, ◌∷◌, [], ◌++◌, length, take};
 ghost use Rattle.std.proofs.lemmas.List.Edits.{sets};
-ghost use Rattle.io.specs.Counts.{IsPrefixLen};
-ghost use Rattle.text.specs.Put.{Ahead, hex8, decimal, Kept, separator_of, rows, Placed};
+ghost use Rattle.text.specs.Put.{Ahead, hex8, decimal, Kept, separator_of, rows};
 
-// Puts bytes at `at`, as far as there is room.
-pub fn put_all(out: &mut [u8], at: usize, bytes: &[u8]) -> usize
+// Puts bytes at `at`, as far as there is room, and answers the position behind them.
+fn put_at(out: &mut [u8], at: usize, bytes: &[u8]) -> usize
     ensures written { out.new ≡ sets out.old at bytes.now }
     ensures end { Ahead at (length bytes.now) (length out.old) result }
 {
-    let mut j = at;
-    let mut i = 0;
-    while i < bytes.len() {
-        if out.len() <= j {
-            return j;
-        }
-        out[j] = bytes[i];
-        j += 1;
-        i += 1;
+    if out.len() < at {
+        return at;
     }
-    j
+    let n = bytes.len().min(out.len() - at);
+    out[at..at + n].copy_from_slice(&bytes[..n]);
+    at + n
 }
 
-// Puts a word as eight hexadecimal digits.
-pub fn put_hex8(out: &mut [u8], at: usize, w: u32) -> usize
-    ensures written { out.new ≡ sets out.old at (hex8 w) }
-    ensures end { Ahead at 8 (length out.old) result }
-{
-    let mut text = [0u8; 16];
-    let k = io::hex(w as u64, 8, &mut text);
-    put_all(out, at, &text[..k])
-}
-
-// Puts a number in decimal.
-pub fn put_decimal(out: &mut [u8], at: usize, n: u64) -> usize
-    ensures { Placed (decimal n) out.old at out.new result }
-{
-    let mut text = [0u8; 20];
-    let k = io::decimal(n, &mut text);
-    put_all(out, at, &text[..k])
-}
-
-// n, or the buffer's length where that is less: a number of bytes that `&buf[..n]` can take.
-pub fn within(n: usize, buf: &[u8]) -> usize
-    ensures in_bounds { IsPrefixLen result buf.now }
-    ensures value { result ≡ min n (length buf.now) }
-{
-    if n < buf.len() { n } else { buf.len() }
-}
-
-// The same of words.
-pub fn among(n: usize, words: &[u32]) -> usize
-    ensures in_bounds { IsPrefixLen result words.now }
-    ensures value { result ≡ min n (length words.now) }
-{
-    if n < words.len() { n } else { words.len() }
-}
-
-// The line that is being read, in a lent buffer: how many bytes it has there, and whether it was too long for it.
-#[derive(Clone, Copy)]
-pub struct Held {
+// A lent buffer, and how much of it is written.
+#[derive(Drop)]
+pub struct Buffer<'a> {
+    pub out: &'a mut [u8],
     pub len: usize,
-    pub long: bool,
 }
 
-// Puts one more part of the line behind what is held of it.
-pub fn keep(line: &mut [u8], held: Held, part: &[u8]) -> Held
-    ensures { Kept held line.old part.now line.new result }
-{
-    let len = held.len;
-    if held.long {
-        return Held { len, long: true };
+impl<'a> Buffer<'a> {
+    ghost use Rattle.text.specs.Buffer.{Puts, PutsAll};
+
+    // Nothing is written yet.
+    pub fn new(out: &'a mut [u8]) -> Buffer<'a>
+        ensures lent { result.out.ghost_name ≡ out.entry.ghost_name }
+        ensures bytes { result.out.now ≡ out.old }
+        ensures len { result.len ≡ 0 }
+    {
+        Buffer { out, len: 0 }
     }
-    if line.len() < len {
-        return Held { len, long: true };
+
+    pub fn written(&self) -> &[u8]
+        ensures { result.now ≡ take self.now.len self.now.out.now }
+    {
+        &self.out[..self.len.min(self.out.len())]
     }
-    if line.len() - len < part.len() {
-        return Held { len, long: true };
+
+    // Puts bytes, as far as there is room.
+    pub fn put(&mut self, bytes: &[u8])
+        ensures { PutsAll bytes.now self.old self.new }
+    {
+        self.len = put_at(self.out, self.len, bytes);
     }
-    let end = put_all(line, len, part);
-    Held {
-        len: end,
-        long: false,
+
+    // Puts a word as eight hexadecimal digits.
+    pub fn put_hex8(&mut self, w: u32)
+        ensures { PutsAll (hex8 w) self.old self.new }
+    {
+        let mut text = [0u8; 16];
+        let k = io::hex(w as u64, 8, &mut text);
+        self.put(&text[..k]);
+    }
+
+    // Puts a number in decimal.
+    pub fn put_decimal(&mut self, n: u64)
+        ensures { Puts (decimal n) self.old self.new }
+    {
+        let mut text = [0u8; 20];
+        let k = io::decimal(n, &mut text);
+        self.put(&text[..k]);
+    }
+
+    // Puts a word and the byte that stands behind it.
+    pub fn put_word(&mut self, w: u32, sep: u8)
+        ensures { Puts (hex8 w ++ (sep ∷ [])) self.old self.new }
+    {
+        self.put_hex8(w);
+        self.put(&[sep]);
+    }
+
+    // Puts words as a listing, five a line.
+    pub fn put_rows(&mut self, words: &[u32])
+        ensures { Puts (rows 0 words.now) self.old self.new }
+    {
+        for (i, w) in words.iter().enumerate() {
+            self.put_word(*w, separator(i, words.len() - i));
+        }
     }
 }
 
@@ -90,34 +89,19 @@ pub fn keep(line: &mut [u8], held: Held, part: &[u8]) -> Held
 fn separator(i: usize, left: usize) -> u8
     ensures { result ≡ separator_of i left }
 {
-    if left == 1 {
-        return b'\n';
-    }
-    if i % 5 == 4 {
-        return b'\n';
-    }
-    b' '
+    if left == 1 || i % 5 == 4 { b'\n' } else { b' ' }
 }
 
-// Puts a word and the byte that stands behind it.
-pub fn put_word(out: &mut [u8], at: usize, w: u32, sep: u8) -> usize
-    ensures { Placed (hex8 w ++ (sep ∷ [])) out.old at out.new result }
+// Puts one more part of a line behind what is held of it in a lent buffer: how many bytes are held, or none where there is no room or was
+// none before.
+pub fn keep(line: &mut [u8], held: Option<usize>, part: &[u8]) -> Option<usize>
+    ensures { Kept held line.old part.now line.new result }
 {
-    let behind = put_hex8(out, at, w);
-    let s = [sep];
-    put_all(out, behind, &s)
-}
-
-// Puts words as a listing, five a line.
-pub fn put_rows(out: &mut [u8], at: usize, words: &[u32]) -> usize
-    ensures { Placed (rows 0 words.now) out.old at out.new result }
-{
-    let mut end = at;
-    let mut i = 0;
-    while i < words.len() {
-        let sep = separator(i, words.len() - i);
-        end = put_word(out, end, words[i], sep);
-        i += 1;
+    let len = held?;
+    let end = len.checked_add(part.len())?;
+    if line.len() < end {
+        return None;
     }
-    end
+    line[len..end].copy_from_slice(part);
+    Some(end)
 }

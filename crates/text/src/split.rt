@@ -1,93 +1,70 @@
 // The lines and the words of a text.
-ghost use Rattle.std.specs.Prelude.{◌≡◌, ◌+◌, ◌≤◌, length, drop};
-ghost use Rattle.text.specs.Split.{stop, before, Within};
-ghost use Rattle.text.specs.declared.split.Stop.TheVariants.{LineFeed, Blank, Other};
-
-// A part of a text: the bytes from `from` up to, not including, `to`.
-#[derive(Clone, Copy)]
-pub struct Span {
-    pub from: usize,
-    pub to: usize,
-}
-
-// What a search stops at: a line feed, a blank, or a byte that is no blank.
-#[derive(Clone, Copy)]
-enum Stop {
-    LineFeed,
-    Blank,
-    Other,
-}
+ghost use Rattle.std.specs.Prelude.{◌≡◌, not, length, position, MatchOption};
+ghost use Rattle.std.specs.Iterator.{at_most};
+ghost use Rattle.text.specs.Split.{line_feed, blank, IsLastLine, IsLine, IsBlank, IsWord};
 
 // Tab, line feed, vertical tab, form feed, carriage return and space: ASCII's part of the blanks of Rust's split_whitespace.
 fn is_blank(b: u8) -> bool
-    ensures { result ≡ stop Blank b }
+    ensures { result ≡ blank b }
 {
-    if b == 32 {
-        return true;
-    }
-    if b < 9 {
-        return false;
-    }
-    b < 14
+    matches!(b, b' ' | 9..=13)
 }
 
-fn stops(w: Stop, b: u8) -> bool
-    ensures { result ≡ stop w b }
+fn line_end(s: &[u8]) -> Option<usize>
+    ensures { result ≡ position line_feed s.now }
 {
-    match w {
-        Stop::LineFeed => b == 10,
-        Stop::Blank => is_blank(b),
-        Stop::Other => !is_blank(b),
+    s.iter().position(|b| *b == b'\n')
+}
+
+fn word_start(s: &[u8]) -> Option<usize>
+    ensures { result ≡ position (λ b. not (blank b)) s.now }
+{
+    s.iter().position(|b| !is_blank(*b))
+}
+
+fn word_end(s: &[u8]) -> Option<usize>
+    ensures { result ≡ position blank s.now }
+{
+    s.iter().position(|b| is_blank(*b))
+}
+
+// The first line, without its line feed, and what stands behind that; none where no line ends.
+pub fn split_line(s: &[u8]) -> Option<(&[u8], &[u8])>
+    ensures { MatchOption result (IsLastLine s.now) (λ p. IsLine s.now p.0.now p.1.now) }
+{
+    let end = line_end(s)?;
+    Some((&s[..end], &s[end + 1..]))
+}
+
+// The first word, and what stands behind it; none where there are only blanks.
+pub fn split_word(s: &[u8]) -> Option<(&[u8], &[u8])>
+    ensures { MatchOption result (IsBlank s.now) (λ p. IsWord s.now p.0.now p.1.now) }
+{
+    let rest = &s[word_start(s)?..];
+    Some(rest.split_at(word_end(rest).unwrap_or(rest.len())))
+}
+
+// The words of a text, one behind the other.
+#[derive(Clone, Copy)]
+pub struct Words<'a>(pub &'a [u8]);
+
+impl<'a> Iterator for Words<'a> {
+    ghost use Rattle.text.specs.Words.{TakesWord};
+
+    type Item = &'a [u8];
+
+    ghost next_gives = { TakesWord };
+
+    ghost remaining = { λ s. at_most (length s.0.now) };
+
+    fn next(&mut self) -> Option<&'a [u8]> {
+        let (word, rest) = split_word(self.0)?;
+        self.0 = rest;
+        Some(word)
     }
-}
-
-// The first position from `at` on at which the search stops, or the text's end.
-fn first(w: Stop, s: &[u8], at: usize) -> usize
-    ensures { Within w s.now at result }
-{
-    let mut i = at;
-    while i < s.len() {
-        if stops(w, s[i]) {
-            return i;
-        }
-        i += 1;
-    }
-    i
-}
-
-// Where the line that begins at `at` ends: at the first line feed, or with the text.
-pub fn line_end(s: &[u8], at: usize) -> usize
-    ensures { Within LineFeed s.now at result }
-{
-    first(Stop::LineFeed, s, at)
-}
-
-// The first word from `at` on. Where there is none, it is empty and stands at the end.
-pub fn word_at(s: &[u8], at: usize) -> Span
-    ensures from { Within Other s.now at result.from }
-    ensures to { Within Blank s.now result.from result.to }
-{
-    let from = first(Stop::Other, s, at);
-    let to = first(Stop::Blank, s, from);
-    Span { from, to }
 }
 
 // The number of a word among the words of a list, from 0 on; as many as there are where it is none of them.
 pub fn place(list: &[u8], word: &[u8]) -> usize {
-    let mut at = 0;
-    let mut n = 0;
-    while at < list.len() {
-        let w = word_at(list, at);
-        let from = w.from;
-        let to = w.to;
-        if from == to {
-            return n;
-        }
-        if &list[from..to] == word {
-            return n;
-        }
-        at = to;
-        n += 1;
-    }
-    n
+    Words(list).take_while(|w| *w != word).count()
 }

@@ -3,29 +3,29 @@ use mathlib.Core.Path.{sym, ◌∙◌}
 use Rattle.fields.specs.Fields.{layout_fault}
 use Rattle.fields.proofs.layout_fault.Goals as goal
 
-pub returns-then-far : goal.returns-then-far
+pub returns-then-any_far : goal.returns-then-any_far
 unfolding layout_fault
-returns-then-far c = let e = sym c.any_far-far.ensures ∙ c.if-far.true in rw e
+returns-then-any_far c = let e = sym c.any_far.ensures ∙ c.if-any_far.true in rw e
 
-pub returns-then-unaligned : goal.returns-then-unaligned
+pub returns-then-any_unaligned : goal.returns-then-any_unaligned
 unfolding layout_fault
-returns-then-unaligned c =
-    let e = sym c.any_far-far.ensures ∙ c.if-far.false in
-    let f = sym c.any_unaligned-unaligned.ensures ∙ c.if-unaligned.true in
+returns-then-any_unaligned c =
+    let e = sym c.any_far.ensures ∙ c.if-any_far.false in
+    let f = sym c.any_unaligned.ensures ∙ c.if-any_unaligned.true in
     rw (e, f)
 
-pub returns-then-overlapping : goal.returns-then-overlapping
+pub returns-then-overlap : goal.returns-then-overlap
 unfolding layout_fault
-returns-then-overlapping c =
-    let e = sym c.any_far-far.ensures ∙ c.if-far.false in
-    let f = sym c.any_unaligned-unaligned.ensures ∙ c.if-unaligned.false in
-    let g = sym c.overlap-overlapping.ensures ∙ c.if-overlapping.true in
+returns-then-overlap c =
+    let e = sym c.any_far.ensures ∙ c.if-any_far.false in
+    let f = sym c.any_unaligned.ensures ∙ c.if-any_unaligned.false in
+    let g = sym c.overlap.ensures ∙ c.if-overlap.true in
     rw (e, f, g)
 
 pub returns : goal.returns
 unfolding layout_fault
 returns c =
-    let e = sym c.any_far-far.ensures ∙ c.if-far.false in
-    let f = sym c.any_unaligned-unaligned.ensures ∙ c.if-unaligned.false in
-    let g = sym c.overlap-overlapping.ensures ∙ c.if-overlapping.false in
+    let e = sym c.any_far.ensures ∙ c.if-any_far.false in
+    let f = sym c.any_unaligned.ensures ∙ c.if-any_unaligned.false in
+    let g = sym c.overlap.ensures ∙ c.if-overlap.false in
     rw (e, f, g)

@@ -4,7 +4,4 @@ use Rattle.listing.proofs.accepted.Goals as goal
 
 pub returns : goal.returns
 unfolding accepted
-returns c =
-    let f = c.put_counts-a in
-    let g = c.put_rows-b in
-    then f.auto.out f.ensures (then g.auto.out g.ensures c.put_sites.ensures)
+returns c = then c.put_counts.ensures (then c.put_rows.ensures c.put_sites.ensures)

@@ -9,10 +9,10 @@ use lib.ListN.{length}
 use Rattle.block.specs.declared.Memory.{Memory}
 use Rattle.block.specs.Block.{moved}
 use Rattle.operands.specs.declared.rows.Shape.{Shape}
-use Rattle.operands.specs.Faults.{◌gives◌}
+use Rattle.faults.specs.Faults.{◌gives◌}
 use Rattle.operands.specs.Kinds.{kind_at, fast_of}
 use Rattle.operands.specs.Rows.{shape_of}
-use Rattle.operands.proofs.Table.{at_most-six, none_moved}
+use Rattle.operands.proofs.Table.{at_most-six}
 use Rattle.operation.specs.Operation.{operands_fit, operands, too_long, contents_fault, operation_of}
 use Rattle.operation.proofs.Operands.{fit_all}
 use Rattle.operands.specs.Numbers.{byte_at}
@@ -35,12 +35,6 @@ group_is : (m : Memory) (k : ℕ) (p : List ℕ) {xs : List ℕ} {n : ℕ} {t : 
     → too_long m (moved (fast_of k (operands p))) ≡ t
 group_is m k p given e f = sym (f ∙ ap (too_long m) (e ∙ ap (λ (ys : List ℕ). moved (fast_of k ys)) given))
 
--- a kind below 40 is no group
-none_long : (m : Memory) (k : ℕ) (p : List ℕ) → k < 40 → too_long m (moved (fast_of k (operands p))) ≡ false
-none_long m k p h =
-    let none = none_moved k (operands p) (omega arith) (λ from below. omega (arith, h, from)) in
-    rw (← none, le-ltb m.ram_len 0 (omega arith), le-ltb m.xip_len 0 (omega arith))
-
 -- the tests before that of a group's length have passed
 passed : (m : Memory) (k : ℕ) (p : List ℕ) {xs : List ℕ} {r : Shape} {g : ℕ}
     → xs ≡ operands p → r ≡ shape_of k xs → 3 ≤ length p → k ≡ byte_at p 0 → k < 50 → length p ≡ 3 + 4 * r.count
@@ -52,13 +46,13 @@ passed m k p given e long kind below size glue few fit =
     let f = ap not (sym (fit_is k p given e)) ∙ fit in
     rw (le-ltb _ _ long, ← kind, lt-leb _ _ below, f, ← n, eq-eqb _ _ size, ← glue, le-ltb _ _ few)
 
-pub returns-then-p-lt3 : goal.returns-then-p-lt3
+pub returns-then-p-lt3-clause-fault : goal.returns-then-p-lt3-clause-fault
 unfolding contents_fault
-returns-then-p-lt3 c = rw (lt-ltb _ _ c.if-p-lt3.true)
+returns-then-p-lt3-clause-fault c = rw (lt-ltb _ _ c.if-p-lt3.true)
 
-pub returns-then-kind-ge50 : goal.returns-then-kind-ge50
+pub returns-then-kind-ge50-clause-fault : goal.returns-then-kind-ge50-clause-fault
 unfolding contents_fault
-returns-then-kind-ge50 c = rw (le-ltb _ _ c.if-p-lt3.false, ← c.byte-kind.ensures, le-leb 50 _ c.if-kind-ge50.true)
+returns-then-kind-ge50-clause-fault c = rw (le-ltb _ _ c.if-p-lt3.false, ← c.byte-kind.ensures, le-leb 50 _ c.if-kind-ge50.true)
 
 pub overflow_mul-shape : goal.overflow_mul-shape
 overflow_mul-shape c =
@@ -70,9 +64,9 @@ overflow_add-shape c =
     let n = count_is c.byte-kind.result c.args.p.now c.operands_of-x.ensures c.shape_of-shape.ensures in
     omega (arith, n, at_most-six c.byte-kind.result)
 
-pub returns-then-p-shape : goal.returns-then-p-shape
+pub returns-then-p-shape-clause-fault : goal.returns-then-p-shape-clause-fault
 unfolding contents_fault
-returns-then-p-shape c =
+returns-then-p-shape-clause-fault c =
     let n = count_is c.byte-kind.result c.args.p.now c.operands_of-x.ensures c.shape_of-shape.ensures in
     rw (
       le-ltb _ _ c.if-p-lt3.false,
@@ -82,9 +76,9 @@ returns-then-p-shape c =
       ne_eqb _ _ c.if-p-shape.true,
     )
 
-pub returns-then-glue-gt1 : goal.returns-then-glue-gt1
+pub returns-then-glue-gt1-clause-fault : goal.returns-then-glue-gt1-clause-fault
 unfolding contents_fault
-returns-then-glue-gt1 c =
+returns-then-glue-gt1-clause-fault c =
     let n = count_is c.byte-kind.result c.args.p.now c.operands_of-x.ensures c.shape_of-shape.ensures in
     rw (
       le-ltb _ _ c.if-p-lt3.false,
@@ -96,9 +90,9 @@ returns-then-glue-gt1 c =
       lt-ltb _ _ c.if-glue-gt1.true,
     )
 
-pub returns-then-not-shape : goal.returns-then-not-shape
+pub returns-then-not-shape-clause-fault : goal.returns-then-not-shape-clause-fault
 unfolding contents_fault
-returns-then-not-shape c =
+returns-then-not-shape-clause-fault c =
     let n = count_is c.byte-kind.result c.args.p.now c.operands_of-x.ensures c.shape_of-shape.ensures in
     let fit = fit_is c.byte-kind.result c.args.p.now c.operands_of-x.ensures c.shape_of-shape.ensures in
     let f = ap not (sym fit) ∙ c.if-not-shape.true in
@@ -113,26 +107,8 @@ returns-then-not-shape c =
       le-ltb _ _ c.if-glue-gt1.false,
     )
 
-pub returns-then-kind-lt40 : goal.returns-then-kind-lt40
-unfolding operation_of
-returns-then-kind-lt40 c =
-    let k = c.byte-kind.result in
-    let a = c.args in
-    let o = c.fast_of-fast.ensures ∙ ap (fast_of k) c.operands_of-x.ensures in
-    let told =
-    passed a.m k a.p.now c.operands_of-x.ensures c.shape_of-shape.ensures c.if-p-lt3.false c.byte-kind.ensures
-    c.if-kind-ge50.false c.if-p-shape.false c.byte-glue.ensures c.if-glue-gt1.false c.if-not-shape.false in
-    rw (
-      told,
-      none_long a.m k a.p.now c.if-kind-lt40.true,
-      ← c.byte-kind.ensures,
-      ← c.byte-glue.ensures,
-      o,
-      c.byte.ensures,
-    )
-
-pub returns-then-too_long : goal.returns-then-too_long
-returns-then-too_long c =
+pub returns-then-too_long-clause-fault : goal.returns-then-too_long-clause-fault
+returns-then-too_long-clause-fault c =
     let k = c.byte-kind.result in
     let a = c.args in
     let given = c.operands_of-x.ensures in
@@ -146,14 +122,11 @@ returns-then-too_long c =
       c.if-too_long.true,
     )
 
-pub returns : goal.returns
-unfolding operation_of
-returns c =
+pub returns-clause-fault : goal.returns-clause-fault
+returns-clause-fault c =
     let k = c.byte-kind.result in
     let a = c.args in
-    let given = c.operands_of-x.ensures in
-    let g = group_is a.m k a.p.now given c.moved.ensures c.too_long.ensures in
-    let o = c.fast_of-fast.ensures ∙ ap (fast_of k) given in
+    let g = group_is a.m k a.p.now c.operands_of-x.ensures c.moved.ensures c.too_long.ensures in
     let told =
     passed a.m k a.p.now c.operands_of-x.ensures c.shape_of-shape.ensures c.if-p-lt3.false c.byte-kind.ensures
     c.if-kind-ge50.false c.if-p-shape.false c.byte-glue.ensures c.if-glue-gt1.false c.if-not-shape.false in
@@ -161,6 +134,13 @@ returns c =
       told,
       g,
       c.if-too_long.false,
+    )
+
+pub returns-clause-operation : goal.returns-clause-operation
+unfolding operation_of
+returns-clause-operation c =
+    let o = c.fast_of.ensures ∙ ap (fast_of c.byte-kind.result) c.operands_of-x.ensures in
+    rw (
       ← c.byte-kind.ensures,
       ← c.byte-glue.ensures,
       o,

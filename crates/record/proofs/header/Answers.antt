@@ -1,9 +1,18 @@
 -- `header` meets its contract: the parts lent are the payloads of fields 01 to 03; the start and the guard have functions of their own.
-use mathlib.Core.Path.{ap, ◌∙◌}
+use Prim.Native.Nat.{ℕ}
+use mathlib.Core.Path.{◌≡◌, ap, ◌∙◌}
+use mathlib.Core.Bool.{Bool, false}
 use native.Mathlib.Omega.{arith}
-use Rattle.record.specs.Record.{layout_of, memory_of, addresses_of, header}
+use Rattle.block.specs.declared.BOp.{BOp}
+use Rattle.block.specs.declared.Fast.{Fast}
+use Rattle.block.specs.declared.Fast.TheVariants.{Nop}
+use Rattle.record.specs.Record.{nop, layout_of, memory_of, addresses_of, header}
 use Rattle.fields.proofs.Laws.{layout-whole, memory-whole, addresses-whole, start-whole, payload-part}
 use Rattle.record.proofs.header.Goals as goal
+
+-- what `BOp::default` gives
+is_nop : (f : Fast) (l : ℕ) (g : Bool) → f ≡ Nop → l ≡ 0 → g ≡ false → ◌≡◌ {A = BOp} (record { fast = f; len = l; glue = g }) nop
+is_nop f l g h i j = rw (h, i, j)
 
 pub slice_bounds-layout_of-end : goal.slice_bounds-layout_of-end
 slice_bounds-layout_of-end c = omega (arith, (layout-whole _ c.requires.0.layout).1.inside)
@@ -31,5 +40,5 @@ returns c =
       c.addresses_of.ensures ∙ ap addresses_of (payload-part s 43 24 (addresses-whole s f.addresses).1),
       c.start_of.ensures,
       c.guard_at.ensures,
-      c.no_block-none.ensures,
+      is_nop _ _ _ c.default.ensures.0 c.default.ensures.1.0 c.default.ensures.1.1,
     )

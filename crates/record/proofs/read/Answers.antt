@@ -1,124 +1,162 @@
 -- `read` meets its contract: each field is refused or passed as the definition has it; an accepted block is checked; number and place
 -- tell the answer.
 use Prim.Native.Nat.{ℕ}
-use mathlib.Core.Path.{◌≡◌, sym, ap, ◌∙◌}
+use mathlib.Core.Path.{◌≡◌, refl, sym, ap, subst, ◌∙◌}
 use mathlib.Core.Bool.{Bool}
 use native.Mathlib.Omega.{arith}
-use lib.ListN.{length}
 use mathlib.Core.List.{List}
+use lib.ListN.{length}
+use Rattle.std.proofs.Common.{rules, Result, Ok, Err, IfOk}
 use Rattle.block.specs.declared.Block.{Block}
 use Rattle.block.specs.Block.{in_flash}
 use Rattle.block.specs.Checked.{Checked}
-use Rattle.record.specs.Record.{Reading, Accepted, layout_field, memory_field, addresses_field, start_field, reading, operations}
-use Rattle.record.specs.Record.{header, Told}
+use Rattle.faults.specs.declared.Refusal.{Refusal}
+use Rattle.record.specs.Record.{Reading, accepted, reading, operations, header, found, Told}
 use Rattle.record.specs.Parts.{Faultless}
 use Rattle.record.proofs.Accepted.{Bytes, answer-checked}
 use Rattle.record.proofs.Behind.{flash-reading}
 use Rattle.record.proofs.Faults.{told}
-use Rattle.record.proofs.Steps.{refuse, pass}
+use Rattle.record.proofs.Steps.{placed, refused_at, passed, pass}
 use Rattle.fields.proofs.Laws.{layout-whole, memory-whole, addresses-whole, start-whole, no-guard}
 use Rattle.record.proofs.read.Goals as goal
 
-promised : (s : List ℕ) {r : Reading} → Bytes s → r ≡ reading s
-    → (r ≡ reading s) × ((r.answer ≡ Accepted → Checked r.block) × Told s r.answer)
-promised s {r} h e = (e, (answer-checked s r h e, rw e (told s)))
+record Promised (s : List ℕ) (q : Result Block Refusal) : Type 0 where
+  is_reading : found q ≡ reading s
+  checked : IfOk q (λ b. Checked b)
+  number_and_place : Told s (found q).answer
 
--- the four fields passed
-faultless : {s : List ℕ} {l m a t : ℕ} → l ≡ layout_field s → l ≡ 0 → m ≡ memory_field s → m ≡ 0 → a ≡ addresses_field s → a ≡ 0
-    → t ≡ start_field s → t ≡ 0 → Faultless s
-faultless l l₀ m m₀ a a₀ t t₀ = record { layout = sym l ∙ l₀; memory = sym m ∙ m₀; addresses = sym a ∙ a₀; start = sym t ∙ t₀ }
+promised : (s : List ℕ) (q : Result Block Refusal) → Bytes s → found q ≡ reading s → Promised s q
+promised s q h e =
+    record { is_reading = e; checked = fits q e; number_and_place = subst (λ (r : Reading). Told s r.answer) (sym e) (told s) }
+  where
+    fits : (p : Result Block Refusal) → found p ≡ reading s → IfOk p (λ b. Checked b)
+    fits (Ok b) f = answer-checked s (accepted b) h f refl
+    fits (Err r) f = tt
 
 -- whether the start is in flash's range, as the code has tested it
 in_range : {n a : ℕ} {f t : Bool} → a ≡ n → f ≡ in_flash a → f ≡ t → in_flash n ≡ t
 in_range a f t = ap in_flash (sym a) ∙ sym f ∙ t
 
-pub returns-then-layout-ne0 : goal.returns-then-layout-ne0
+pub returns-in_err-map_err : goal.returns-in_err-map_err
 unfolding reading
-returns-then-layout-ne0 c =
+returns-in_err-map_err c =
+    let h : c.from_residual.result ≡ Err c.in_err-map_err.field-0.0 = search rules in
+    let m : c.map_err.result ≡ placed 0 c.layout_field.result = search rules in
     let p =
-    promised c.args.s.now (λ i. omega (arith, c.type_inv.s i))
-    (c.refused.ensures
-    ∙ refuse _ 0 _ c.layout_field-layout.ensures c.if-layout-ne0.true) in
-    record { is_reading = p.0; checked = p.1.0; number_and_place = p.1.1 }
+    promised c.args.s.now c.from_residual.result (λ i. omega (arith, c.type_inv.s i))
+    (ap found h ∙ refused_at c.layout_field.result c.map_err.result _ _ 0 _ c.layout_field.ensures m c.in_err-map_err.was) in
+    record { is_reading = p.is_reading; checked = p.checked; number_and_place = p.number_and_place }
 
-pub memory_field-memory-requires : goal.memory_field-memory-requires
-memory_field-memory-requires c = omega (arith, (layout-whole _ (sym c.layout_field-layout.ensures ∙ c.if-layout-ne0.false)).1.inside)
+pub memory_field-requires : goal.memory_field-requires
+memory_field-requires c = omega (arith, (layout-whole _ (passed c.layout_field.result c.layout_field.ensures c.in_ok-map_err.ensures.variant)).1.inside)
 
-pub returns-then-memory-ne0 : goal.returns-then-memory-ne0
+pub returns-in_err-map_err-2 : goal.returns-in_err-map_err-2
 unfolding reading
-returns-then-memory-ne0 c =
+returns-in_err-map_err-2 c =
+    let h : c.from_residual-in_err-map_err-2.result ≡ Err c.in_err-map_err-2.field-0.0 = search rules in
+    let m : c.map_err-2.result ≡ placed 23 c.memory_field.result = search rules in
     let p =
-    promised c.args.s.now (λ i. omega (arith, c.type_inv.s i))
-    (c.refused-then-memory-ne0.ensures
-    ∙ refuse _ 23 _ c.memory_field-memory.ensures c.if-memory-ne0.true
-    ∙ pass _ 0 _ c.layout_field-layout.ensures c.if-layout-ne0.false) in
-    record { is_reading = p.0; checked = p.1.0; number_and_place = p.1.1 }
+    promised c.args.s.now c.from_residual-in_err-map_err-2.result (λ i. omega (arith, c.type_inv.s i))
+    (ap found h
+    ∙ refused_at c.memory_field.result c.map_err-2.result _ _ 23 _ c.memory_field.ensures m c.in_err-map_err-2.was
+    ∙ pass _ 0 _ refl (passed c.layout_field.result c.layout_field.ensures c.in_ok-map_err.ensures.variant)) in
+    record { is_reading = p.is_reading; checked = p.checked; number_and_place = p.number_and_place }
 
-pub addresses_field-addresses-requires : goal.addresses_field-addresses-requires
-addresses_field-addresses-requires c = omega (arith, (memory-whole _ (sym c.memory_field-memory.ensures ∙ c.if-memory-ne0.false)).1.inside)
+pub addresses_field-requires : goal.addresses_field-requires
+addresses_field-requires c = omega (arith, (memory-whole _ (passed c.memory_field.result c.memory_field.ensures c.in_ok-map_err-2.ensures.variant)).1.inside)
 
-pub returns-then-addresses-ne0 : goal.returns-then-addresses-ne0
+pub returns-in_err-map_err-3 : goal.returns-in_err-map_err-3
 unfolding reading
-returns-then-addresses-ne0 c =
+returns-in_err-map_err-3 c =
+    let h : c.from_residual-in_err-map_err-3.result ≡ Err c.in_err-map_err-3.field-0.0 = search rules in
+    let m : c.map_err-3.result ≡ placed 43 c.addresses_field.result = search rules in
     let p =
-    promised c.args.s.now (λ i. omega (arith, c.type_inv.s i))
-    (c.refused-then-addresses-ne0.ensures
-    ∙ refuse _ 43 _ c.addresses_field-addresses.ensures c.if-addresses-ne0.true
-    ∙ pass _ 23 _ c.memory_field-memory.ensures c.if-memory-ne0.false
-    ∙ pass _ 0 _ c.layout_field-layout.ensures c.if-layout-ne0.false) in
-    record { is_reading = p.0; checked = p.1.0; number_and_place = p.1.1 }
+    promised c.args.s.now c.from_residual-in_err-map_err-3.result (λ i. omega (arith, c.type_inv.s i))
+    (ap found h
+    ∙ refused_at c.addresses_field.result c.map_err-3.result _ _ 43 _ c.addresses_field.ensures m c.in_err-map_err-3.was
+    ∙ pass _ 23 _ refl (passed c.memory_field.result c.memory_field.ensures c.in_ok-map_err-2.ensures.variant)
+    ∙ pass _ 0 _ refl (passed c.layout_field.result c.layout_field.ensures c.in_ok-map_err.ensures.variant)) in
+    record { is_reading = p.is_reading; checked = p.checked; number_and_place = p.number_and_place }
 
-pub start_field-start-requires : goal.start_field-start-requires
-start_field-start-requires c = (
-  omega (arith, (addresses-whole _ (sym c.addresses_field-addresses.ensures ∙ c.if-addresses-ne0.false)).1.inside),
-  (memory-whole _ (sym c.memory_field-memory.ensures ∙ c.if-memory-ne0.false)).0,
+pub start_field-requires : goal.start_field-requires
+start_field-requires c = (
+  omega (arith, (addresses-whole _ (passed c.addresses_field.result c.addresses_field.ensures c.in_ok-map_err-3.ensures.variant)).1.inside),
+  (memory-whole _ (passed c.memory_field.result c.memory_field.ensures c.in_ok-map_err-2.ensures.variant)).0,
 )
 
-pub returns-then-start-ne0 : goal.returns-then-start-ne0
+pub returns-in_err-map_err-4 : goal.returns-in_err-map_err-4
 unfolding reading
-returns-then-start-ne0 c =
+returns-in_err-map_err-4 c =
+    let h : c.from_residual-in_err-map_err-4.result ≡ Err c.in_err-map_err-4.field-0.0 = search rules in
+    let m : c.map_err-4.result ≡ placed 70 c.start_field.result = search rules in
     let p =
-    promised c.args.s.now (λ i. omega (arith, c.type_inv.s i))
-    (c.refused-then-start-ne0.ensures
-    ∙ refuse _ 70 _ c.start_field-start.ensures c.if-start-ne0.true
-    ∙ pass _ 43 _ c.addresses_field-addresses.ensures c.if-addresses-ne0.false
-    ∙ pass _ 23 _ c.memory_field-memory.ensures c.if-memory-ne0.false
-    ∙ pass _ 0 _ c.layout_field-layout.ensures c.if-layout-ne0.false) in
-    record { is_reading = p.0; checked = p.1.0; number_and_place = p.1.1 }
+    promised c.args.s.now c.from_residual-in_err-map_err-4.result (λ i. omega (arith, c.type_inv.s i))
+    (ap found h
+    ∙ refused_at c.start_field.result c.map_err-4.result _ _ 70 _ c.start_field.ensures m c.in_err-map_err-4.was
+    ∙ pass _ 43 _ refl (passed c.addresses_field.result c.addresses_field.ensures c.in_ok-map_err-3.ensures.variant)
+    ∙ pass _ 23 _ refl (passed c.memory_field.result c.memory_field.ensures c.in_ok-map_err-2.ensures.variant)
+    ∙ pass _ 0 _ refl (passed c.layout_field.result c.layout_field.ensures c.in_ok-map_err.ensures.variant)) in
+    record { is_reading = p.is_reading; checked = p.checked; number_and_place = p.number_and_place }
 
 pub start_of-requires : goal.start_of-requires
-start_of-requires c = (start-whole _ (sym c.start_field-start.ensures ∙ c.if-start-ne0.false)).0
+start_of-requires c = (start-whole _ (passed c.start_field.result c.start_field.ensures c.in_ok-map_err-4.ensures.variant)).0
 
-pub header-requires : goal.header-requires
-header-requires c =
-    let f =
-    faultless c.layout_field-layout.ensures c.if-layout-ne0.false c.memory_field-memory.ensures c.if-memory-ne0.false
-    c.addresses_field-addresses.ensures c.if-addresses-ne0.false c.start_field-start.ensures c.if-start-ne0.false in
-    (f, no-guard _ (in_range c.start_of.ensures c.in_flash.ensures c.if-in_flash.true))
+pub returns-then-not-in_flash : goal.returns-then-not-in_flash
+returns-then-not-in_flash c =
+    let p = promised c.args.s.now c.read_ram.result (λ i. omega (arith, c.type_inv.s i)) c.read_ram.ensures in
+    record { is_reading = p.is_reading; checked = p.checked; number_and_place = p.number_and_place }
+
+pub header-block-requires : goal.header-block-requires
+header-block-requires c =
+    let f : Faultless c.args.s.now =
+    record {
+      layout = passed c.layout_field.result c.layout_field.ensures c.in_ok-map_err.ensures.variant;
+      memory = passed c.memory_field.result c.memory_field.ensures c.in_ok-map_err-2.ensures.variant;
+      addresses = passed c.addresses_field.result c.addresses_field.ensures c.in_ok-map_err-3.ensures.variant;
+      start = passed c.start_field.result c.start_field.ensures c.in_ok-map_err-4.ensures.variant;
+    } in
+    (f, no-guard _ (in_range c.start_of.ensures c.in_flash.ensures c.if-not-in_flash.false))
 
 pub read_operations-requires : goal.read_operations-requires
 unfolding header
 read_operations-requires c = (
-  omega (arith, (start-whole _ (sym c.start_field-start.ensures ∙ c.if-start-ne0.false)).1.inside),
-  ap (λ (b : Block). b.n) c.header.ensures,
-  ap (λ (b : Block). length b.ops) c.header.ensures,
+  omega (arith, (start-whole _ (passed c.start_field.result c.start_field.ensures c.in_ok-map_err-4.ensures.variant)).1.inside),
+  ap (λ (b : Block). b.n) c.header-block.ensures,
+  ap (λ (b : Block). length b.ops) c.header-block.ensures,
 )
 
-pub returns-then-in_flash : goal.returns-then-in_flash
-returns-then-in_flash c =
+pub returns-in_err-read_operations : goal.returns-in_err-read_operations
+returns-in_err-read_operations c =
     let s = c.args.s.now in
-    let f =
-    faultless c.layout_field-layout.ensures c.if-layout-ne0.false c.memory_field-memory.ensures c.if-memory-ne0.false
-    c.addresses_field-addresses.ensures c.if-addresses-ne0.false c.start_field-start.ensures c.if-start-ne0.false in
+    let f : Faultless s =
+    record {
+      layout = passed c.layout_field.result c.layout_field.ensures c.in_ok-map_err.ensures.variant;
+      memory = passed c.memory_field.result c.memory_field.ensures c.in_ok-map_err-2.ensures.variant;
+      addresses = passed c.addresses_field.result c.addresses_field.ensures c.in_ok-map_err-3.ensures.variant;
+      start = passed c.start_field.result c.start_field.ensures c.in_ok-map_err-4.ensures.variant;
+    } in
+    let h : c.from_residual-in_err-read_operations.result ≡ Err c.in_err-read_operations.field-0.0 = search rules in
     let p =
-    promised s (λ i. omega (arith, c.type_inv.s i))
-    (c.read_operations.ensures
-    ∙ ap (λ (b : Block). operations 33 s 77 b) c.header.ensures
-    ∙ flash-reading s f (in_range c.start_of.ensures c.in_flash.ensures c.if-in_flash.true)) in
-    record { is_reading = p.0; checked = p.1.0; number_and_place = p.1.1 }
+    promised s c.from_residual-in_err-read_operations.result (λ i. omega (arith, c.type_inv.s i))
+    (ap found h
+    ∙ c.in_err-read_operations.ensures
+    ∙ ap (operations 33 s 77) c.header-block.ensures
+    ∙ flash-reading s f (in_range c.start_of.ensures c.in_flash.ensures c.if-not-in_flash.false)) in
+    record { is_reading = p.is_reading; checked = p.checked; number_and_place = p.number_and_place }
 
 pub returns : goal.returns
 returns c =
+    let s = c.args.s.now in
+    let f : Faultless s =
+    record {
+      layout = passed c.layout_field.result c.layout_field.ensures c.in_ok-map_err.ensures.variant;
+      memory = passed c.memory_field.result c.memory_field.ensures c.in_ok-map_err-2.ensures.variant;
+      addresses = passed c.addresses_field.result c.addresses_field.ensures c.in_ok-map_err-3.ensures.variant;
+      start = passed c.start_field.result c.start_field.ensures c.in_ok-map_err-4.ensures.variant;
+    } in
     let p =
-    promised c.args.s.now (λ i. omega (arith, c.type_inv.s i)) c.read_ram.ensures in
-    record { is_reading = p.0; checked = p.1.0; number_and_place = p.1.1 }
+    promised s (Ok c.read_operations.new.block) (λ i. omega (arith, c.type_inv.s i))
+    (c.in_ok-read_operations.ensures
+    ∙ ap (operations 33 s 77) c.header-block.ensures
+    ∙ flash-reading s f (in_range c.start_of.ensures c.in_flash.ensures c.if-not-in_flash.false)) in
+    record { is_reading = p.is_reading; checked = p.checked; number_and_place = p.number_and_place }

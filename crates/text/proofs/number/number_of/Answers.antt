@@ -1,21 +1,23 @@
-use Rattle.std.proofs.Common.{◌∙◌, ap, sym}
-use Rattle.text.specs.Number.{negated}
-use Rattle.text.proofs.Words.{empty, minus, hexed, decimal}
+use Rattle.std.proofs.Common.{rules, arith, ◌∙◌, ap}
+use Rattle.text.specs.Number.{unsigned, negated, whole}
+use Rattle.text.proofs.Search.{rest_is}
+use Rattle.text.proofs.Prefixes.{short, minus, hexed, decimal, opposites}
 use Rattle.text.proofs.number.number_of.Goals as goal
 
-pub returns-then-s-eq0 : goal.returns-then-s-eq0
-returns-then-s-eq0 c = empty c.args.s.now c.if-s-eq0.true
+pub returns-in-48 : goal.returns-in-48
+returns-in-48 c =
+    c.unsigned.ensures
+    ∙ ap (λ s. unsigned 16 18446744073709551615 s) (rest_is c.args.s.now 2)
+    ∙ hexed c.args.s.now (search rules) (search rules)
 
-pub returns-then-s-eq-MINUS : goal.returns-then-s-eq-MINUS
-returns-then-s-eq-MINUS c =
-    c.negative.ensures ∙ ap negated c.digits.ensures ∙ minus c.args.s.now c.if-s-eq-MINUS.true
+pub returns-in-45 : goal.returns-in-45
+returns-in-45 c =
+    opposites _ c.map.result (search rules) (search rules) (rw c.digits.ensures at c.map.ensures.cases)
+    ∙ ap (λ s. negated (whole 10 9223372036854775808 s)) (rest_is c.args.s.now 1)
+    ∙ minus c.args.s.now (search rules)
 
-pub returns-then-is_hexadecimal : goal.returns-then-is_hexadecimal
-returns-then-is_hexadecimal c =
-    c.behind_plus.ensures
-    ∙ hexed c.args.s.now c.if-s-eq-MINUS.false (sym c.is_hexadecimal.ensures ∙ c.if-is_hexadecimal.true)
-
-pub returns : goal.returns
-returns c =
-    c.behind_plus-2.ensures
-    ∙ decimal c.args.s.now c.if-s-eq-MINUS.false (sym c.is_hexadecimal.ensures ∙ c.if-is_hexadecimal.false)
+pub returns-in_default : goal.returns-in_default
+returns-in_default c =
+    c.unsigned-in_default.ensures
+    ∙ decimal c.args.s.now (λ e. grind (arith, short c.args.s.now 0 45, e))
+    (λ e f. grind (arith, short c.args.s.now 0 48, short c.args.s.now 1 120, e, f))
