@@ -5,8 +5,9 @@ use Rattle.arm.specs.declared.Test.TheVariants.{Zero}
 use Rattle.code.specs.Items.{cb}
 use Rattle.code.specs.Emit.{kind}
 use Rattle.asm.proofs.Laws.{go-put}
-use Rattle.asm.proofs.cbz.Goals as goal
+use Rattle.asm.proofs.Wrote.{wrote-with}
+use Rattle.asm.proofs.Asm.cbz.Goals as goal
 
 pub returns : goal.returns
 unfolding kind
-returns c = go-put (cb W Zero c.args.rt) _ _ _ _ (omega arith) c.fix.ensures
+returns c = wrote-with c.fix.ensures (go-put (cb W Zero c.args.rt) _ _ _ _ (omega arith) c.fix.ensures.code)
