@@ -11,18 +11,18 @@ use Rattle.code.specs.Items.{pick}
 use Rattle.lowering.specs.declared.RegCache.{RegCache}
 use Rattle.lowering.specs.Instrs.{CPU, mov, ldr, str}
 use Rattle.lowering.specs.Cache.{host, FREE, position, is_held, off_reg, oldest, chosen, spill, slot_for, seated, stored, touch, assign, mark, ld_reg, st_reg}
-use Rattle.cache.specs.declared.Found.TheVariants.{At, Nothing}
+use Rattle.std.specs.Prelude.{Some, None}
 use Rattle.cache.specs.Lookup.{lookup}
 
-at_true : (b : Bool) (p i : ℕ) → At i ≡ pick b (At p) Nothing → (b ≡ true) × (i ≡ p)
+at_true : (b : Bool) (p i : ℕ) → Some i ≡ pick b (Some p) None → (b ≡ true) × (i ≡ p)
 at_true true p i e = (refl, cc)
 at_true false p i e = (cc, cc)
 
-none_false : (b : Bool) (p : ℕ) → Nothing ≡ pick b (At p) Nothing → b ≡ false
+none_false : (b : Bool) (p : ℕ) → None ≡ pick b (Some p) None → b ≡ false
 none_false true p e = cc
 none_false false p e = refl
 
-module _ (rc : RegCache) (r i : ℕ) (e : At i ≡ lookup rc r) where
+module _ (rc : RegCache) (r i : ℕ) (e : Some i ≡ lookup rc r) where
   pub is-held : is_held rc r ≡ true
   is-held = (at_true _ _ _ e).0
 
@@ -52,7 +52,7 @@ module _ (rc : RegCache) (r i : ℕ) (e : At i ≡ lookup rc r) where
   unfolding stored
   held-stored = ap₂ (λ k q. mark k q) held-slot touched_seated
 
-module _ (rc : RegCache) (r i : ℕ) (e : Nothing ≡ lookup rc r) (h : i ≡ chosen rc) where
+module _ (rc : RegCache) (r i : ℕ) (e : None ≡ lookup rc r) (h : i ≡ chosen rc) where
   not_held : is_held rc r ≡ false
   not_held = none_false _ _ e
 
@@ -78,22 +78,22 @@ module _ (rc : RegCache) (r i : ℕ) (e : Nothing ≡ lookup rc r) (h : i ≡ ch
 
 -- ---- the slot to take
 module _ (lay : Layout) (rc : RegCache) (i : ℕ) where
-  pub free-chosen : At i ≡ lookup rc FREE → i ≡ chosen rc
+  pub free-chosen : Some i ≡ lookup rc FREE → i ≡ chosen rc
   unfolding chosen
   free-chosen e = rw (is-held rc FREE i e) (at_position rc FREE i e)
 
-  pub free-spill : At i ≡ lookup rc FREE → [] ≡ spill lay rc
+  pub free-spill : Some i ≡ lookup rc FREE → [] ≡ spill lay rc
   unfolding spill
   free-spill e = rw (is-held rc FREE i e)
 
-  pub old_chosen : Nothing ≡ lookup rc FREE → i ≡ oldest rc → i ≡ chosen rc
+  pub old_chosen : None ≡ lookup rc FREE → i ≡ oldest rc → i ≡ chosen rc
   unfolding chosen
   old_chosen e h = rw (none_false (is_held rc FREE) _ e) h
 
-  pub dirty-spill : Nothing ≡ lookup rc FREE → i ≡ oldest rc → get_or rc.dirty i false ≡ true → str (host i) CPU (off_reg lay (get_or rc.guest i 0)) ∷ [] ≡ spill lay rc
+  pub dirty-spill : None ≡ lookup rc FREE → i ≡ oldest rc → get_or rc.dirty i false ≡ true → str (host i) CPU (off_reg lay (get_or rc.guest i 0)) ∷ [] ≡ spill lay rc
   unfolding spill
   dirty-spill e h d = rw (none_false (is_held rc FREE) _ e) (rw (← h, d))
 
-  pub clean-spill : Nothing ≡ lookup rc FREE → i ≡ oldest rc → get_or rc.dirty i false ≡ false → [] ≡ spill lay rc
+  pub clean-spill : None ≡ lookup rc FREE → i ≡ oldest rc → get_or rc.dirty i false ≡ false → [] ≡ spill lay rc
   unfolding spill
   clean-spill e h d = rw (none_false (is_held rc FREE) _ e) (rw (← h, d))
