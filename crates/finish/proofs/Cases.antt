@@ -112,11 +112,6 @@ pub pool_more : (base i low high : ℕ) (t ws ws' ws₁ ws₂ : List ℕ) → ws
 pool_more base i low high t ws ws' ws₁ ws₂ p l h q r =
     pool-step base i (get_or t (literals_at + i) 0) t ws ws' ws₁ ws₂ p refl (q ∙ ap (set ws' (base + 2 * i)) l) (r ∙ ap (set ws₁ (base + 2 * i + 1)) h)
 
--- ---- zeros
-pub zeros_all : (i : ℕ) (d w : List ℕ) → w ≡ replicate i 0 ++ drop i d → i ≤ length d → length d ≤ i → w ≡ zeros d
-unfolding zeros
-zeros_all i d w p l m = let e : i ≡ length d = omega arith in p ∙ rw (drop_of_length-le d m, append-nil, e)
-
 -- ---- the whole
 pub write-length : (p : ℕ) (xs ws : List ℕ) → length (write p xs ws) ≡ length ws
 unfolding write
