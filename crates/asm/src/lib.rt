@@ -219,6 +219,8 @@ impl<'a> Asm<'a> {
         self.fix(Reference::ToLabel(l, Fix::B19), 0x5400_0000 + cond);
     }
 
+    // The two below and the two behind them keep the names of the Rust: each is one call of `fix`, and a parameter for the test would only
+    // be turned back into the word's bit.
     pub fn cbz(&mut self, rt: u32, l: Label)
         requires { rt < 32 }
         ensures { Wrote self.old (put_item (go (cb W Zero rt) (to_label l.0)) (state self.old)) self.new }
