@@ -1,6 +1,5 @@
 -- What each way through the code of the literals leaves.
 use mathlib.Core.Path.{◌≡◌, refl, sym, ap, ◌∙◌}
-use mathlib.Core.Logic.{◌≢◌}
 use mathlib.Core.List.{List, [], ◌∷◌}
 use Prim.Native.Nat.{ℕ, zero, suc, ◌+◌, ◌-◌, ◌<◌, ◌≤◌}
 use native.Mathlib.Omega.{arith}
@@ -11,8 +10,8 @@ use Rattle.std.proofs.lemmas.Option.{cond_some, none-some}
 use Rattle.std.proofs.lemmas.Bool.{ltb-false}
 use Rattle.std.proofs.lemmas.List.Sums.{prefix_len-le-length}
 use Rattle.std.proofs.lemmas.List.{drop_more}
-use Rattle.std.proofs.Common.{Option, Some, None, slice_range, add_assoc, cond, not, ◌==◌, Bool, true, false}
-use borrow.Author.Tests.{lt-ltb, le-ltb, eq-eqb, ne_eqb}
+use Rattle.std.proofs.Common.{Some, None, slice_range, add_assoc, cond, not, ◌==◌, Bool, true, false}
+use borrow.Author.Tests.{lt-ltb, le-ltb}
 use lib.IntN.{pos}
 use Rattle.arm.specs.Instr.{encode}
 use Rattle.code.specs.Items.{pick, index, ldr, fill, literal, go}
@@ -38,10 +37,10 @@ range i (suc k) t h =
     ∙ ap (λ j. get_or t (literals_at + i) 0 ∷ take k (drop (literals_at + j) t)) (add-one i)
     ∙ ap (λ xs. get_or t (literals_at + i) 0 ∷ xs) (range (suc i) k t (omega (arith, h)))
 
-many : (i k : ℕ) (t : List ℕ) → length (literals_from i k t) ≡ k
+pub literals-length : (i k : ℕ) (t : List ℕ) → length (literals_from i k t) ≡ k
 unfolding literals_from
-many i zero t = refl
-many i (suc k) t = ap suc (many (suc i) k t)
+literals-length i zero t = refl
+literals-length i (suc k) t = ap suc (literals-length (suc i) k t)
 
 none_false : (b : Bool) (x : ℕ) → cond b (Some x) None ≡ None → b ≡ false
 none_false true x e = absurd (none-some x (sym e))
@@ -64,7 +63,7 @@ module _ (v k : ℕ) (t : List ℕ) (h : literals_at + k ≤ length t) where
   unfolding slice
   found_none e =
       let n : ℕ = position_or_len (λ x. v == x) slice in
-      let size : length slice ≡ k = ap length slice_is ∙ many 0 k t in
+      let size : length slice ≡ k = ap length slice_is ∙ literals-length 0 k t in
       let le : n ≤ length slice = prefix_len-le-length (λ x. not (v == x)) slice in
       let same : k ≡ n = omega (arith, size, le, ltb-false n (length slice) (none_false _ _ e)) in
       same ∙ at v slice ∙ ap (index v) slice_is

@@ -16,16 +16,18 @@ use Rattle.code.specs.Tree.{nowhere, whole_items}
 use Rattle.code.specs.Calls.{bumped, next_l, calls}
 use Rattle.code.proofs.Calls.{calls_are}
 use Rattle.code.proofs.Tree.{size-append}
+use Rattle.asm.specs.declared.Asm.{Asm}
 use Rattle.asm.specs.declared.Counts.{Counts}
 use Rattle.asm.specs.declared.Label.{Label}
 use Rattle.asm.specs.declared.Reference.TheVariants.{ToLabel}
-use Rattle.asm.specs.State.{literal_room, literals_at, State, parts, counts, begin, kept, keep_at, made, fixed, put, run}
+use Rattle.asm.specs.State.{literal_room, literals_at, State, parts, state, Wrote, counts, begin, kept, keep_at, made, fixed, put, run}
+use Rattle.asm.proofs.Wrote.{wrote-as}
 
 -- ---- one call as an item
-pub go-put : (h : Hole) (l : Label) (w : ℕ) (s s₁ : State) → w ≡ encode (fill h (pos 0)) → s₁ ≡ fixed (ToLabel l (kind h)) w s
-    → s₁ ≡ put (go h (label l.0)) s
+pub go-put : {a b : Asm} (h : Hole) (l : Label) (w : ℕ) → w ≡ encode (fill h (pos 0)) → Wrote a (fixed (ToLabel l (kind h)) w (state a)) b
+    → Wrote a (put (go h (label l.0)) (state a)) b
 unfolding put
-go-put h l w s s₁ e p = p ∙ ap (λ x. fixed (ToLabel l (kind h)) x s) e
+go-put {a} h l w e p = wrote-as p (ap (λ x. fixed (ToLabel l (kind h)) x (state a)) e)
 
 -- ---- the counts behind a literal
 -- a literal is kept or not: what holds both ways

@@ -25,6 +25,7 @@ pub const LITERALS_AT: usize = 2048;
 
 pub const FIXUPS_AT: usize = 2056;
 
+// One array, whose length the functions for C name.
 pub const TABLE: usize = 6152;
 
 // A label's number is never a word's position.
@@ -53,18 +54,6 @@ pub struct Asm<'a> {
     pub words: &'a mut [u32],
     pub table: &'a mut [u64; TABLE],
     pub counts: Counts,
-}
-
-// Nothing emitted.
-pub fn start() -> Counts
-    ensures { result ≡ begin }
-{
-    Counts {
-        at: 0,
-        labels: 0,
-        fixups: 0,
-        literals: 0,
-    }
 }
 
 fn bump(n: u32) -> u32
@@ -105,7 +94,7 @@ fn fix_number(f: Fix) -> u32
     f as u32
 }
 
-// The low half of a fix-up's cell.
+// The low half of a fix-up's cell. A function, not `From`: of a number it keeps 29 bits, and `ref_of` reads any number.
 fn ref_number(to: Reference) -> u32
     ensures { result ≡ ref_no to }
 {
@@ -164,6 +153,24 @@ fn find(table: &[u64; TABLE], k: u32, value: u64) -> u32
 }
 
 impl<'a> Asm<'a> {
+    // Nothing emitted.
+    pub fn new(words: &'a mut [u32], table: &'a mut [u64; TABLE]) -> Asm<'a>
+        ensures words { result.words ≡ words.entry }
+        ensures table { result.table ≡ table.entry }
+        ensures counts { result.counts ≡ begin }
+    {
+        Asm {
+            words,
+            table,
+            counts: Counts {
+                at: 0,
+                labels: 0,
+                fixups: 0,
+                literals: 0,
+            },
+        }
+    }
+
     // One word.
     pub fn emit(&mut self, w: u32)
         ensures { Wrote self.old (word w (state self.old)) self.new }
@@ -212,6 +219,8 @@ impl<'a> Asm<'a> {
         self.fix(Reference::ToLabel(l, Fix::B19), 0x5400_0000 + cond);
     }
 
+    // The two below and the two behind them keep the names of the Rust: each is one call of `fix`, and a parameter for the test would only
+    // be turned back into the word's bit.
     pub fn cbz(&mut self, rt: u32, l: Label)
         requires { rt < 32 }
         ensures { Wrote self.old (put_item (go (cb W Zero rt) (to_label l.0)) (state self.old)) self.new }

@@ -3,9 +3,8 @@ use mathlib.Core.Path.{refl}
 use Rattle.code.specs.Items.{b}
 use Rattle.code.specs.Emit.{kind}
 use Rattle.asm.proofs.Laws.{go-put}
-use Rattle.asm.proofs.Wrote.{wrote-with}
 use Rattle.asm.proofs.Asm.b.Goals as goal
 
 pub returns : goal.returns
 unfolding kind
-returns c = wrote-with c.fix.ensures (go-put b _ _ _ _ refl c.fix.ensures.code)
+returns c = go-put b _ _ refl c.fix.ensures

@@ -3,9 +3,8 @@ use native.Mathlib.Omega.{arith}
 use Rattle.code.specs.Items.{b_cond}
 use Rattle.code.specs.Emit.{kind}
 use Rattle.asm.proofs.Laws.{go-put}
-use Rattle.asm.proofs.Wrote.{wrote-with}
 use Rattle.asm.proofs.Asm.b_cond.Goals as goal
 
 pub returns : goal.returns
 unfolding kind
-returns c = wrote-with c.fix.ensures (go-put (b_cond c.args.cond) _ _ _ _ (omega arith) c.fix.ensures.code)
+returns c = go-put (b_cond c.args.cond) _ _ (omega arith) c.fix.ensures

@@ -5,9 +5,8 @@ use Rattle.arm.specs.declared.Test.TheVariants.{Zero}
 use Rattle.code.specs.Items.{cb}
 use Rattle.code.specs.Emit.{kind}
 use Rattle.asm.proofs.Laws.{go-put}
-use Rattle.asm.proofs.Wrote.{wrote-with}
 use Rattle.asm.proofs.Asm.cbz.Goals as goal
 
 pub returns : goal.returns
 unfolding kind
-returns c = wrote-with c.fix.ensures (go-put (cb W Zero c.args.rt) _ _ _ _ (omega arith) c.fix.ensures.code)
+returns c = go-put (cb W Zero c.args.rt) _ _ (omega arith) c.fix.ensures
