@@ -212,6 +212,8 @@ impl<'a> Asm<'a> {
         self.fix(Reference::ToLabel(l, Fix::B26), 0x1400_0000);
     }
 
+    // A register is a number below 32, as in the Rust and for the encoders of `words`: a type of its own would be made at each call, and
+    // turned back in the word.
     pub fn b_cond(&mut self, cond: u32, l: Label)
         requires { cond < 16 }
         ensures { Wrote self.old (put_item (go (b_cond cond) (to_label l.0)) (state self.old)) self.new }

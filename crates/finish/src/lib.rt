@@ -114,6 +114,7 @@ fn patch(table: &[u64; asm::TABLE], base: u32, to: Reference, here: u32) -> u32
     }
 }
 
+// From here on words and table are taken, not the assembler: that the table stays as it is, `&` says.
 fn patch_at(words: &mut [u32], at: u32, f: u32)
     ensures { words.new ≡ slice_set words.old at ((slice_index words.old at + f) % 2 ^ 32) }
 {
@@ -146,7 +147,8 @@ pub fn patch_to(words: &mut [u32], table: &[u64; asm::TABLE], base: u32, upto: u
     }
 }
 
-// A nop where a pool follows code of odd length; where the pool starts.
+// A nop where a pool follows code of odd length; where the pool starts. That k has an end is asked here and in `pool`, and is no
+// invariant of the counts: `finish` promises of any state of the assembler (docs/CLAIMS.md, 2026-02).
 fn pad(words: &mut [u32], table: &[u64; asm::TABLE], n: u32, k: u32) -> u32
     requires { (n ≤ 1048576) × (k ≤ literal_room) }
     ensures { (result ≡ base_of n (literals_from 0 k table.now)) × (result ≤ 1048577) × (words.new ≡ write n (pad_of n (literals_from 0 k table.now)) words.old) }

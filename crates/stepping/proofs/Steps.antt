@@ -29,21 +29,7 @@ module _ (blk : Block) where
 
   pub given-step : {n : Depth} (rc : RegCache) (s : Step) → step_code blk rc {n = n} s ≡ step_code fields rc s
   unfolding call exit_imm chain ind hold check_brk fork limit guard load store step_code
-  given-step rc (Step.ld_reg t r) = refl
-  given-step rc (Step.st_reg t r) = refl
-  given-step rc (Step.ld_field f t) = refl
-  given-step rc (Step.st_field f t) = refl
-  given-step rc (Step.mov32 t v) = refl
-  given-step rc (Step.add_imm d s v) = refl
-  given-step rc (Step.ins i) = refl
-  given-step rc (Step.load w signed i) = refl
-  given-step rc (Step.store w alone i) = refl
-  given-step rc (Step.check_brk glue pc count) = refl
-  given-step rc (Step.chain pc count) = refl
-  given-step rc (Step.fork cond pc target count) = refl
-  given-step rc (Step.ind t count brk) = refl
-  given-step rc (Step.limit pc count) = refl
-  given-step rc (Step.guard at helper pc) = refl
+  given-step rc _ = refl
 
   pub given-steps : (rc : RegCache) (ss : List Step) → steps_code blk rc ss ≡ steps_code fields rc ss
   unfolding steps_code
@@ -71,10 +57,10 @@ kept_kept ps (x ∷ xs) (y ∷ ys) = take-kept 2 (ps ++ (x ∷ xs)) (y ∷ ys) �
 -- ---- a step that goes on at no fixed address has no site
 align_starts : {n : Depth} (u : Bool) (w : Width) (e : Var (under n) → ℕ) (x : ℕ) (s : State) → starts_t (align_test {n = n} u w) e x s ≡ []
 unfolding starts_t align_test
-align_starts u B8 e x s = refl
-align_starts u B16 e x s = refl
-align_starts false B32 e x s = refl
 align_starts true B32 e x s = refl
+align_starts false B32 e x s = refl
+align_starts _ B16 e x s = refl
+align_starts _ B8 e x s = refl
 
 map-starts : {n : Depth} (u : Bool) (e : Var (under n) → ℕ) (x : ℕ) (s : State) → starts_t (map_test {n = n} u) e x s ≡ []
 unfolding starts_t map_test
@@ -84,22 +70,12 @@ map-starts true e x s = refl
 module _ (blk : Block) (rc : RegCache) (s : State) where
   no_start : (x : Step) → targets (x ∷ []) ≡ [] → starts_t (step_code blk rc x) nowhere 0 s ≡ []
   unfolding starts_t step_code load try_region store ind brk_first check_brk limit guard call exit_imm
-  no_start (Step.ld_reg t r) e = refl
-  no_start (Step.st_reg t r) e = refl
-  no_start (Step.ld_field f t) e = refl
-  no_start (Step.st_field f t) e = refl
-  no_start (Step.mov32 t v) e = refl
-  no_start (Step.add_imm d n v) e = refl
-  no_start (Step.ins i) e = refl
-  no_start (Step.load w signed i) e = refl
   no_start (Step.store w alone i) e = simp (align_starts, map-starts)
-  no_start (Step.check_brk glue pc count) e = refl
   no_start (Step.chain pc count) e = cc
   no_start (Step.fork cond pc target count) e = cc
   no_start (Step.ind t count true) e = refl
   no_start (Step.ind t count false) e = refl
-  no_start (Step.limit pc count) e = refl
-  no_start (Step.guard at helper pc) e = refl
+  no_start _ e = refl
 
 -- then it adds code alone
 abbrev pub code_done : Step → Generated → Generated
