@@ -1,46 +1,72 @@
 -- What each way through the code of the literals leaves.
-use mathlib.Core.Path.{◌≡◌, sym, ap, ◌∙◌}
-use mathlib.Core.Logic.{◌≢◌}
-use mathlib.Core.List.{List}
-use Prim.Native.Nat.{ℕ, suc, ◌+◌, ◌-◌, ◌<◌, ◌≤◌}
+use mathlib.Core.Path.{◌≡◌, refl, sym, ap, ◌∙◌}
+use mathlib.Core.List.{List, [], ◌∷◌}
+use Prim.Native.Nat.{ℕ, zero, suc, ◌+◌, ◌-◌, ◌<◌, ◌≤◌}
 use native.Mathlib.Omega.{arith}
 use native.Mathlib.Numerals.{add-one}
-use lib.ListN.{set, get_or}
-use borrow.Author.Tests.{lt-ltb, le-ltb, eq-eqb, ne_eqb}
+use lib.ListN.{set, get_or, take, drop, length}
+use Rattle.std.specs.List.{position, position_or_len}
+use Rattle.std.proofs.lemmas.Option.{cond_some, none-some}
+use Rattle.std.proofs.lemmas.Bool.{ltb-false}
+use Rattle.std.proofs.lemmas.List.Sums.{prefix_len-le-length}
+use Rattle.std.proofs.lemmas.List.{drop_more}
+use Rattle.std.proofs.Common.{Some, None, slice_range, add_assoc, cond, not, ◌==◌, Bool, true, false}
+use borrow.Author.Tests.{lt-ltb, le-ltb}
 use lib.IntN.{pos}
 use Rattle.arm.specs.Instr.{encode}
-use Rattle.code.specs.Items.{index, ldr, fill, literal, go}
+use Rattle.code.specs.Items.{pick, index, ldr, fill, literal, go}
 use Rattle.asm.specs.declared.Reference.TheVariants.{ToPool}
-use Rattle.asm.specs.State.{literal_room, literals_at, State, state, counts, kept, held, literals_from, keep_at, fixed, put}
+use Rattle.asm.specs.State.{literal_room, literals_at, State, parts, counts, kept, held, literals_from, keep_at, fixed, put}
 
--- ---- the search: the first i are passed
-unfoldable pub Passed : (v k i : ℕ) → List ℕ → Type 0
-Passed v k i t = index v (literals_from 0 k t) ≡ i + index v (literals_from i (k - i) t)
+-- ---- the search: the place of a value in a slice is its number among the literals
+at : (v : ℕ) (xs : List ℕ) → position_or_len (λ x. v == x) xs ≡ index v xs
+unfolding index
+at v [] = refl
+at v (x ∷ xs) = by (v == x) (at v xs)
+  where
+    by : (t : Bool) → position_or_len (λ y. v == y) xs ≡ index v xs → cond (not t) (1 + position_or_len (λ y. v == y) xs) 0 ≡ pick t 0 (suc (index v xs))
+    by true e = refl
+    by false e = omega (arith, e)
 
-pub passed_none : (v k : ℕ) (t : List ℕ) → Passed v k 0 t
-unfolding Passed
-passed_none v k t = ap (λ n. index v (literals_from 0 n t)) (let z : k ≡ k - 0 = omega arith in z) ∙ omega arith
+range : (i k : ℕ) (t : List ℕ) → literals_at + i + k ≤ length t → take k (drop (literals_at + i) t) ≡ literals_from i k t
+unfolding literals_from
+range i zero t h = refl
+range i (suc k) t h =
+    ap (take (suc k)) (drop_more t (literals_at + i) 0 (omega (arith, h)))
+    ∙ ap (λ j. get_or t (literals_at + i) 0 ∷ take k (drop j t)) (add_assoc literals_at i 1)
+    ∙ ap (λ j. get_or t (literals_at + i) 0 ∷ take k (drop (literals_at + j) t)) (add-one i)
+    ∙ ap (λ xs. get_or t (literals_at + i) 0 ∷ xs) (range (suc i) k t (omega (arith, h)))
 
-next : (k i : ℕ) → i < k → k - i ≡ suc (k - suc i)
-next k i h = omega arith
+pub literals-length : (i k : ℕ) (t : List ℕ) → length (literals_from i k t) ≡ k
+unfolding literals_from
+literals-length i zero t = refl
+literals-length i (suc k) t = ap suc (literals-length (suc i) k t)
 
-pub passed-hit : (v k i : ℕ) (t : List ℕ) → Passed v k i t → i < k → get_or t (literals_at + i) 0 ≡ v → i ≡ index v (literals_from 0 k t)
-unfolding Passed literals_from index
-passed-hit v k i t p h e =
-    let q : index v (literals_from i (k - i) t) ≡ 0 = rw (next k i h, eq-eqb v (get_or t (literals_at + i) 0) (sym e)) in
-    sym (p ∙ ap (λ n. i + n) q ∙ omega arith)
+none_false : (b : Bool) (x : ℕ) → cond b (Some x) None ≡ None → b ≡ false
+none_false true x e = absurd (none-some x (sym e))
+none_false false x e = refl
 
-pub passed_miss : (v k i : ℕ) (t : List ℕ) → Passed v k i t → i < k → get_or t (literals_at + i) 0 ≢ v → Passed v k (i + 1) t
-unfolding Passed literals_from index
-passed_miss v k i t p h n =
-    let q : index v (literals_from i (k - i) t) ≡ suc (index v (literals_from (suc i) (k - suc i) t)) = rw (next k i h, ne_eqb v (get_or t (literals_at + i) 0) (λ e. n (sym e))) in
-    rw (add-one i) (p ∙ ap (λ n. i + n) q ∙ omega arith)
+-- the slice of the literals, and the value's place in it
+module _ (v k : ℕ) (t : List ℕ) (h : literals_at + k ≤ length t) where
+  slice : List ℕ
+  slice = slice_range t literals_at (literals_at + k)
 
-pub passed_all : (v k i : ℕ) (t : List ℕ) → Passed v k i t → i ≡ k → k ≡ index v (literals_from 0 k t)
-unfolding Passed literals_from index
-passed_all v k i t p e =
-    let q : index v (literals_from i (k - i) t) ≡ 0 = ap (λ n. index v (literals_from i n t)) (let z : k - i ≡ 0 = omega arith in z) in
-    sym (p ∙ ap (λ n. i + n) q ∙ omega arith)
+  slice_is : slice ≡ literals_from 0 k t
+  unfolding slice
+  slice_is = ap (λ n. take n (drop literals_at t)) (let z : literals_at + k - literals_at ≡ k = omega arith in z) ∙ range 0 k t h
+
+  pub found : (i : ℕ) → position (λ x. v == x) (slice_range t literals_at (literals_at + k)) ≡ Some i → i ≡ index v (literals_from 0 k t)
+  unfolding slice
+  found i e = sym (cond_some _ _ _ e).1 ∙ at v slice ∙ ap (index v) slice_is
+
+  pub found_none : position (λ x. v == x) (slice_range t literals_at (literals_at + k)) ≡ None → k ≡ index v (literals_from 0 k t)
+  unfolding slice
+  found_none e =
+      let n : ℕ = position_or_len (λ x. v == x) slice in
+      let size : length slice ≡ k = ap length slice_is ∙ literals-length 0 k t in
+      let le : n ≤ length slice = prefix_len-le-length (λ x. not (v == x)) slice in
+      let same : k ≡ n = omega (arith, size, le, ltb-false n (length slice) (none_false _ _ e)) in
+      same ∙ at v slice ∙ ap (index v) slice_is
 
 -- ---- keeping it
 module _ (i v k : ℕ) (s : State) (e : k ≡ kept s) where
@@ -48,7 +74,7 @@ module _ (i v k : ℕ) (s : State) (e : k ≡ kept s) where
   unfolding keep_at
   keep_there h = rw (← e, lt-ltb i k h)
 
-  pub keep-new : k ≤ i → k < literal_room → state s.words (set s.tab (literals_at + k) v) (counts s.asm.at s.asm.labels s.asm.fixups (k + 1)) ≡ keep_at i v s
+  pub keep-new : k ≤ i → k < literal_room → parts s.words (set s.tab (literals_at + k) v) (counts s.asm.at s.asm.labels s.asm.fixups (k + 1)) ≡ keep_at i v s
   unfolding keep_at
   keep-new h l = rw (← e, le-ltb i k h, lt-ltb k literal_room l, add-one k)
 

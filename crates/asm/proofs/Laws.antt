@@ -17,27 +17,25 @@ use Rattle.code.specs.Calls.{bumped, next_l, calls}
 use Rattle.code.proofs.Calls.{calls_are}
 use Rattle.code.proofs.Tree.{size-append}
 use Rattle.asm.specs.declared.Asm.{Asm}
+use Rattle.asm.specs.declared.Counts.{Counts}
 use Rattle.asm.specs.declared.Label.{Label}
 use Rattle.asm.specs.declared.Reference.TheVariants.{ToLabel}
-use Rattle.asm.specs.State.{literal_room, literals_at, State, state, counts, begin, kept, keep_at, made, fixed, put, run}
+use Rattle.asm.specs.State.{literal_room, literals_at, State, parts, state, Wrote, counts, begin, kept, keep_at, made, fixed, put, run}
+use Rattle.asm.proofs.Wrote.{wrote-as}
 
 -- ---- one call as an item
-pub go-put : (h : Hole) (l : Label) (w : ℕ) (s s₁ : State) → w ≡ encode (fill h (pos 0)) → s₁ ≡ fixed (ToLabel l (kind h)) w s
-    → s₁ ≡ put (go h (label l.0)) s
+pub go-put : {a b : Asm} (h : Hole) (l : Label) (w : ℕ) → w ≡ encode (fill h (pos 0)) → Wrote a (fixed (ToLabel l (kind h)) w (state a)) b
+    → Wrote a (put (go h (label l.0)) (state a)) b
 unfolding put
-go-put h l w s s₁ e p = p ∙ ap (λ x. fixed (ToLabel l (kind h)) x s) e
-
-pub new-put : (ws t : List ℕ) (a : Asm) → state ws t (made a).a ≡ put new (state ws t a)
-unfolding put
-new-put ws t a = refl
+go-put {a} h l w e p = wrote-as p (ap (λ x. fixed (ToLabel l (kind h)) x (state a)) e)
 
 -- ---- the counts behind a literal
 -- a literal is kept or not: what holds both ways
-keep_case : (P : State → Type 0) (i v : ℕ) (s : State) → P s → P (state s.words (set s.tab (literals_at + kept s) v) (counts s.asm.at s.asm.labels s.asm.fixups (suc (kept s)))) → P (keep_at i v s)
+keep_case : (P : State → Type 0) (i v : ℕ) (s : State) → P s → P (parts s.words (set s.tab (literals_at + kept s) v) (counts s.asm.at s.asm.labels s.asm.fixups (suc (kept s)))) → P (keep_at i v s)
 unfolding keep_at
 keep_case P i v s a b = by (ltb i (kept s)) (ltb (kept s) literal_room)
   where
-    by : (t r : Bool) → P (pick t s (pick r (state s.words (set s.tab (literals_at + kept s) v) (counts s.asm.at s.asm.labels s.asm.fixups (suc (kept s)))) s))
+    by : (t r : Bool) → P (pick t s (pick r (parts s.words (set s.tab (literals_at + kept s) v) (counts s.asm.at s.asm.labels s.asm.fixups (suc (kept s)))) s))
     by true r = a
     by false true = b
     by false false = a
@@ -61,7 +59,7 @@ unfolding whole_items run put made bumped
 whole_run c end s s₁ s₂ s₃ s₄ z h p q r t =
     let first : s₂ ≡ run (items c nowhere 0 1) (put new s) =
     q ∙ ap (λ u. run (calls c nowhere 0 u.asm.labels) u) p
-    ∙ ap (λ m. run (calls c nowhere 0 m) (put new s)) (ap (λ (a : Asm). bumped a.labels) z)
+    ∙ ap (λ m. run (calls c nowhere 0 m) (put new s)) (ap (λ (a : Counts). bumped a.labels) z)
     ∙ ap (λ is. run is (put new s)) (calls_are c nowhere 0 1 (omega arith)) in
     t ∙ ap (run (map ins end)) (r ∙ ap (put (bind 0)) first)
     ∙ sym (run-append (items c nowhere 0 1) (bind 0 ∷ map ins end) (put new s))

@@ -1,5 +1,5 @@
 -- The assembler's state, and what each item does to it: lent words, one lent table, and counts that stop at 2 ^ 20.
-use Rattle.std.specs.Prelude.{List, [], ◌∷◌, ℕ, zero, suc, ◌+◌, ◌*◌, ◌/◌, ◌%◌, ◌^◌, ltb, eqb, pos, set, get_or}
+use Rattle.std.specs.Prelude.{◌≡◌, List, [], ◌∷◌, ℕ, zero, suc, ◌+◌, ◌*◌, ◌/◌, ◌%◌, ◌^◌, ltb, eqb, pos, set, get_or}
 use Rattle.arm.specs.Instr.{encode}
 use Rattle.code.specs.Items.{pick, fill, label, literal, Item, ins, go, new, bind, index}
 use Rattle.code.specs.declared.Fix.{Fix}
@@ -7,24 +7,34 @@ use Rattle.code.specs.declared.Fix.TheVariants.{B26, B19, B14, Adr21}
 use Rattle.code.specs.Emit.{kind}
 use Rattle.code.specs.Calls.{bumped}
 use Rattle.asm.specs.declared.Asm.{Asm}
+use Rattle.asm.specs.declared.Counts.{Counts}
 use Rattle.asm.specs.declared.Label.{Label}
-use Rattle.asm.specs.declared.Made.{Made}
 use Rattle.asm.specs.declared.Reference.{Reference}
 use Rattle.asm.specs.declared.Reference.TheVariants.{ToLabel, ToPool}
 
 pub record State : Type 0 where
   pub words : List ℕ
   pub tab : List ℕ
-  pub asm : Asm
+  pub asm : Counts
 
-abbrev pub state : List ℕ → List ℕ → Asm → State
-state ws t a = record { words = ws; tab = t; asm = a }
+abbrev pub parts : List ℕ → List ℕ → Counts → State
+parts ws t c = record { words = ws; tab = t; asm = c }
 
-abbrev pub counts : (at labels fixups literals : ℕ) → Asm
+-- what an assembler has written
+abbrev pub state : Asm → State
+state a = parts a.words.now a.table.now a.counts
+
+-- b is a with this state, in the same lent rooms
+pub record Wrote (a : Asm) (s : State) (b : Asm) : Type 0 where
+  pub code : state b ≡ s
+  pub words : b.words.ghost_name ≡ a.words.ghost_name
+  pub table : b.table.ghost_name ≡ a.table.ghost_name
+
+abbrev pub counts : (at labels fixups literals : ℕ) → Counts
 counts p l f k = record { at = p; labels = l; fixups = f; literals = k }
 
 -- nothing emitted
-abbrev pub begin : Asm
+abbrev pub begin : Counts
 begin = counts 0 0 0 0
 
 abbrev pub at_most : ℕ → ℕ → ℕ
@@ -93,16 +103,16 @@ literals_from i (suc k) t = get_or t (literals_at + i) 0 ∷ literals_from (suc 
 
 -- ---- one word more
 unfoldable pub word : ℕ → State → State
-word w s = state (set s.words s.asm.at w) s.tab (counts (bumped s.asm.at) s.asm.labels s.asm.fixups s.asm.literals)
+word w s = parts (set s.words s.asm.at w) s.tab (counts (bumped s.asm.at) s.asm.labels s.asm.fixups s.asm.literals)
 
--- a label's number is given out
-unfoldable pub made : Asm → Made
-made a = record { a = counts a.at (bumped a.labels) a.fixups a.literals; l = label_of a.labels }
+-- the next label's number is given out
+unfoldable pub made : Counts → Counts
+made a = counts a.at (bumped a.labels) a.fixups a.literals
 
 -- a word with its fix-up
 unfoldable pub fixed : Reference → (w : ℕ) → State → State
 fixed r w s =
-    state (set s.words s.asm.at w) (fixup s.asm.fixups (packed s.asm.at r) s.tab)
+    parts (set s.words s.asm.at w) (fixup s.asm.fixups (packed s.asm.at r) s.tab)
     (counts (bumped s.asm.at) s.asm.labels (bumped s.asm.fixups) s.asm.literals)
 
 -- the literals so far
@@ -116,15 +126,15 @@ held s = literals_from 0 (kept s) s.tab
 unfoldable pub keep_at : (i v : ℕ) → State → State
 keep_at i v s =
     pick (ltb i (kept s)) s
-    (pick (ltb (kept s) literal_room) (state s.words (set s.tab (literals_at + kept s) v) (counts s.asm.at s.asm.labels s.asm.fixups (suc (kept s)))) s)
+    (pick (ltb (kept s) literal_room) (parts s.words (set s.tab (literals_at + kept s) v) (counts s.asm.at s.asm.labels s.asm.fixups (suc (kept s)))) s)
 
 -- ---- ONE ITEM
 unfoldable pub put : Item → State → State
 put (ins i) s = word (encode i) s
 put (go h (label l)) s = fixed (ToLabel (label_of l) (kind h)) (encode (fill h (pos 0))) s
 put (go h (literal v)) s = fixed (ToPool (index v (held s))) (encode (fill h (pos 0))) (keep_at (index v (held s)) v s)
-put new s = state s.words s.tab (made s.asm).a
-put (bind l) s = state s.words (labelled l s.asm.at s.tab) s.asm
+put new s = parts s.words s.tab (made s.asm)
+put (bind l) s = parts s.words (labelled l s.asm.at s.tab) s.asm
 
 unfoldable pub run : List Item → State → State
 run [] s = s

@@ -1,28 +1,27 @@
 -- What the lookup's answer says of the definition's choices.
-use mathlib.Core.Path.{◌≡◌, refl, ap, ap₂}
+use mathlib.Core.Path.{◌≡◌, refl, ap}
 use mathlib.Core.Bool.{Bool, true, false}
-use mathlib.Core.List.{List, [], ◌∷◌, ◌++◌}
+use mathlib.Core.List.{[], ◌∷◌}
 use Prim.Native.Nat.{ℕ, ◌<◌}
 use lib.ListN.{get_or}
 use borrow.Author.Tests.{ltb-true}
-use Rattle.arm.specs.declared.Instr.{Instr}
 use Rattle.block.specs.declared.Layout.{Layout}
 use Rattle.code.specs.Items.{pick}
 use Rattle.lowering.specs.declared.RegCache.{RegCache}
-use Rattle.lowering.specs.Instrs.{CPU, mov, ldr, str}
-use Rattle.lowering.specs.Cache.{host, FREE, position, is_held, off_reg, oldest, chosen, spill, slot_for, seated, stored, touch, assign, mark, ld_reg, st_reg}
-use Rattle.cache.specs.declared.Found.TheVariants.{At, Nothing}
+use Rattle.lowering.specs.Instrs.{CPU, str}
+use Rattle.lowering.specs.Cache.{host, FREE, position, is_held, off_reg, oldest, chosen, spill, slot_for, seated, touch, assign}
+use Rattle.std.specs.Prelude.{Some, None}
 use Rattle.cache.specs.Lookup.{lookup}
 
-at_true : (b : Bool) (p i : ℕ) → At i ≡ pick b (At p) Nothing → (b ≡ true) × (i ≡ p)
+at_true : (b : Bool) (p i : ℕ) → Some i ≡ pick b (Some p) None → (b ≡ true) × (i ≡ p)
 at_true true p i e = (refl, cc)
 at_true false p i e = (cc, cc)
 
-none_false : (b : Bool) (p : ℕ) → Nothing ≡ pick b (At p) Nothing → b ≡ false
+none_false : (b : Bool) (p : ℕ) → None ≡ pick b (Some p) None → b ≡ false
 none_false true p e = cc
 none_false false p e = refl
 
-module _ (rc : RegCache) (r i : ℕ) (e : At i ≡ lookup rc r) where
+module _ (rc : RegCache) (r i : ℕ) (e : Some i ≡ lookup rc r) where
   pub is-held : is_held rc r ≡ true
   is-held = (at_true _ _ _ e).0
 
@@ -32,7 +31,7 @@ module _ (rc : RegCache) (r i : ℕ) (e : At i ≡ lookup rc r) where
   pub held_small : i < 8
   held_small = rw at_position (ltb-true _ _ is-held)
 
-  held-slot : i ≡ slot_for rc r
+  pub held-slot : i ≡ slot_for rc r
   unfolding slot_for
   held-slot = rw is-held at_position
 
@@ -40,23 +39,11 @@ module _ (rc : RegCache) (r i : ℕ) (e : At i ≡ lookup rc r) where
   unfolding seated
   touched_seated = rw is-held (ap (λ k. touch k rc) at_position)
 
-  pub held-loads : (lay : Layout) (t : ℕ) → mov t (host i) ∷ [] ≡ ld_reg lay rc t r
-  unfolding ld_reg
-  held-loads lay t = rw is-held (ap (λ k. mov t (host k) ∷ []) held-slot)
-
-  pub held-stores : (lay : Layout) (t : ℕ) → mov (host i) t ∷ [] ≡ st_reg lay rc t r
-  unfolding st_reg
-  held-stores lay t = rw is-held (ap (λ k. mov (host k) t ∷ []) held-slot)
-
-  pub held-stored : mark i (touch i rc) ≡ stored rc r
-  unfolding stored
-  held-stored = ap₂ (λ k q. mark k q) held-slot touched_seated
-
-module _ (rc : RegCache) (r i : ℕ) (e : Nothing ≡ lookup rc r) (h : i ≡ chosen rc) where
-  not_held : is_held rc r ≡ false
+module _ (rc : RegCache) (r i : ℕ) (e : None ≡ lookup rc r) (h : i ≡ chosen rc) where
+  pub not_held : is_held rc r ≡ false
   not_held = none_false _ _ e
 
-  new-slot : i ≡ slot_for rc r
+  pub new-slot : i ≡ slot_for rc r
   unfolding slot_for
   new-slot = rw not_held h
 
@@ -64,36 +51,24 @@ module _ (rc : RegCache) (r i : ℕ) (e : Nothing ≡ lookup rc r) (h : i ≡ ch
   unfolding seated
   assigned_seated = rw not_held (ap (λ k. assign k r rc) h)
 
-  pub new-stored : mark i (assign i r rc) ≡ stored rc r
-  unfolding stored
-  new-stored = ap₂ (λ k q. mark k q) new-slot assigned_seated
-
-  pub new-loads : (lay : Layout) (t : ℕ) (ss : List Instr) → ss ≡ spill lay rc → (ss ++ (ldr (host i) CPU (off_reg lay r) ∷ [])) ++ (mov t (host i) ∷ []) ≡ ld_reg lay rc t r
-  unfolding ld_reg
-  new-loads lay t ss s = rw not_held (rw (← h) (ap₂ (λ xs k. (xs ++ (ldr (host i) CPU (off_reg lay r) ∷ [])) ++ (mov t (host k) ∷ [])) s new-slot))
-
-  pub new-stores : (lay : Layout) (t : ℕ) (ss : List Instr) → ss ≡ spill lay rc → ss ++ (mov (host i) t ∷ []) ≡ st_reg lay rc t r
-  unfolding st_reg
-  new-stores lay t ss s = rw not_held (ap₂ (λ xs k. xs ++ (mov (host k) t ∷ [])) s new-slot)
-
 -- ---- the slot to take
 module _ (lay : Layout) (rc : RegCache) (i : ℕ) where
-  pub free-chosen : At i ≡ lookup rc FREE → i ≡ chosen rc
+  pub free-chosen : Some i ≡ lookup rc FREE → i ≡ chosen rc
   unfolding chosen
   free-chosen e = rw (is-held rc FREE i e) (at_position rc FREE i e)
 
-  pub free-spill : At i ≡ lookup rc FREE → [] ≡ spill lay rc
+  pub free-spill : Some i ≡ lookup rc FREE → [] ≡ spill lay rc
   unfolding spill
   free-spill e = rw (is-held rc FREE i e)
 
-  pub old_chosen : Nothing ≡ lookup rc FREE → i ≡ oldest rc → i ≡ chosen rc
+  pub old_chosen : None ≡ lookup rc FREE → i ≡ oldest rc → i ≡ chosen rc
   unfolding chosen
   old_chosen e h = rw (none_false (is_held rc FREE) _ e) h
 
-  pub dirty-spill : Nothing ≡ lookup rc FREE → i ≡ oldest rc → get_or rc.dirty i false ≡ true → str (host i) CPU (off_reg lay (get_or rc.guest i 0)) ∷ [] ≡ spill lay rc
+  pub dirty-spill : None ≡ lookup rc FREE → i ≡ oldest rc → get_or rc.dirty i false ≡ true → str (host i) CPU (off_reg lay (get_or rc.guest i 0)) ∷ [] ≡ spill lay rc
   unfolding spill
   dirty-spill e h d = rw (none_false (is_held rc FREE) _ e) (rw (← h, d))
 
-  pub clean-spill : Nothing ≡ lookup rc FREE → i ≡ oldest rc → get_or rc.dirty i false ≡ false → [] ≡ spill lay rc
+  pub clean-spill : None ≡ lookup rc FREE → i ≡ oldest rc → get_or rc.dirty i false ≡ false → [] ≡ spill lay rc
   unfolding spill
   clean-spill e h d = rw (none_false (is_held rc FREE) _ e) (rw (← h, d))

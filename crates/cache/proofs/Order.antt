@@ -8,7 +8,7 @@ use native.Mathlib.Numerals.{add-one}
 use native.Mathlib.Omega.{arith}
 use lib.Dec.{eqb}
 use lib.ListN.{length, get_or, set, drop, take, length-set, drop_of_length-le}
-use lib.Seq.{drop-cons, take-suc, take-suc-set, drop-set-lt, set_split, take_all}
+use lib.Seq.{drop-cons, take-suc, take-suc-set, drop-set-lt, take_all}
 use borrow.Author.Tests.{eq-eqb, ne_eqb, eqb-true, eqb-false}
 use Rattle.code.specs.Items.{pick}
 use Rattle.lowering.specs.Cache.{latest}
@@ -67,25 +67,28 @@ module _ (i : ℕ) (order q : List ℕ) (met : Bool) (k : ℕ) (s : Sofar i orde
   following : met ≡ true → Sofar i order (set q k (get_or order (suc k) 0)) true (suc k)
   following m = moves (s.whole ∙ rw m)
 
+  next-same : get_or q (suc k) 0 ≡ get_or order (suc k) 0
+  next-same = cc (drop-cons q (suc k) 0 (omega (arith, s.length_is)), drop-cons order (suc k) 0 next_in, rest_next)
+
   -- a turn of the loop, by whether slot i is met by now
   abbrev now : Bool
-  now = met || eqb (get_or order k 0) i
+  now = met || eqb (get_or q k 0) i
 
-  pub turn_on : (q' : List ℕ) → now ≡ true → q' ≡ set q k (get_or order (k + 1) 0) → Sofar i order q' now (k + 1)
-  turn_on q' h e = rw (h, e, add-one) (by met (eqb (get_or order k 0) i) refl refl h)
+  pub turn_on : (q' : List ℕ) → now ≡ true → q' ≡ set q k (get_or q (k + 1) 0) → Sofar i order q' now (k + 1)
+  turn_on q' h e = rw (h, e, add-one, next-same) (by met (eqb (get_or q k 0) i) refl refl h)
     where
-      by : (m t : Bool) → met ≡ m → eqb (get_or order k 0) i ≡ t → m || t ≡ true → Sofar i order (set q k (get_or order (suc k) 0)) true (suc k)
+      by : (m t : Bool) → met ≡ m → eqb (get_or q k 0) i ≡ t → m || t ≡ true → Sofar i order (set q k (get_or order (suc k) 0)) true (suc k)
       by true t a c z = following a
-      by false true a c z = found a (eqb-true _ _ c)
+      by false true a c z = found a (sym same_at ∙ eqb-true _ _ c)
       by false false a c z = absurd (let y : ◌≡◌ {A = ℕ} 0 1 = cc in omega arith)
 
   pub turn_off : (q' : List ℕ) → now ≡ false → q' ≡ q → Sofar i order q' now (k + 1)
-  turn_off q' h e = rw (h, e, add-one) (by met (eqb (get_or order k 0) i) refl refl h)
+  turn_off q' h e = rw (h, e, add-one) (by met (eqb (get_or q k 0) i) refl refl h)
     where
-      by : (m t : Bool) → met ≡ m → eqb (get_or order k 0) i ≡ t → m || t ≡ false → Sofar i order q false (suc k)
+      by : (m t : Bool) → met ≡ m → eqb (get_or q k 0) i ≡ t → m || t ≡ false → Sofar i order q false (suc k)
       by true t a c z = absurd (let y : ◌≡◌ {A = ℕ} 0 1 = cc in omega arith)
       by false true a c z = absurd (let y : ◌≡◌ {A = ℕ} 0 1 = cc in omega arith)
-      by false false a c z = passed a (eqb-false _ _ c)
+      by false false a c z = passed a (λ h. eqb-false _ _ c (same_at ∙ h))
 
 -- ---- the last place
 one_latest : (i x : ℕ) → latest i (x ∷ []) ≡ x ∷ []

@@ -1,24 +1,15 @@
--- The search of a guest register, a slot at a time.
-use mathlib.Core.Path.{◌≡◌}
-use mathlib.Core.List.{List}
-use Prim.Native.Nat.{ℕ, suc, ◌+◌, ◌<◌, ◌≤◌}
-use native.Mathlib.Numerals.{add-one}
-use lib.ListN.{length, get_or, drop, drop_of_length-le}
-use lib.Seq.{drop-cons}
-use borrow.Author.Tests.{lt-ltb, le-ltb, eq-eqb, ne_eqb}
+-- The library's search finds the definition's position.
+use Rattle.std.proofs.Common.{rules, ◌≡◌, refl, List, ℕ, nat_eq, length, ◌∙◌}
+use Rattle.std.specs.List.{position_or_len}
+use Rattle.std.specs.Prelude.{Option, position as first}
+use Rattle.std.proofs.lemmas.List.Recursion.{is_position_or_len}
 use Rattle.lowering.specs.declared.RegCache.{RegCache}
 use Rattle.lowering.specs.Cache.{position}
-use Rattle.cache.specs.declared.Found.TheVariants.{At, Nothing}
 use Rattle.cache.specs.Lookup.{lookup}
 
-module _ (xs : List ℕ) (i v : ℕ) (h : i < length xs) where
-  pub position_here : get_or xs i 0 ≡ v → position v (drop i xs) ≡ 0
-  unfolding position
-  position_here e = rw (drop-cons xs i 0 h, eq-eqb _ _ e)
+position_is : (r : ℕ) (xs : List ℕ) → position r xs ≡ position_or_len (λ g. nat_eq g r) xs
+unfolding position
+position_is r xs = is_position_or_len (position r) (λ g. nat_eq g r) refl (λ x ys. search rules) xs
 
-  pub position_later : (get_or xs i 0 ≡ v → ⊥) → position v (drop i xs) ≡ suc (position v (drop (i + 1) xs))
-  unfolding position
-  position_later ne = rw (add-one, drop-cons xs i 0 h, ne_eqb _ _ ne)
-
-pub found_at : (rc : RegCache) (r i : ℕ) → i < 8 → position r rc.guest ≡ i → At i ≡ lookup rc r
-found_at rc r i h e = rw (e, lt-ltb _ _ h)
+pub placed : (rc : RegCache) (r : ℕ) (o : Option ℕ) → length rc.guest ≡ 8 → o ≡ first (λ g. nat_eq g r) rc.guest → o ≡ lookup rc r
+placed rc r o l e = e ∙ rw (position_is r rc.guest, l) refl

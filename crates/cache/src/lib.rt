@@ -1,7 +1,7 @@
-// The register cache of a block (RegCache in the Rust), by value: eight host registers that hold guest registers.
+// The register cache of a block (RegCache in the Rust): eight host registers that hold guest registers.
 #![tactic(auto)]
 
-ghost use Rattle.std.specs.Prelude.{◌≡◌, ◌/◌, ◌<◌};
+ghost use Rattle.std.specs.Prelude.{◌≡◌, ◌/◌, ◌<◌, position, nat_eq};
 ghost use Rattle.arm.specs.declared.Instr.TheVariants.{MemoryImm};
 ghost use Rattle.lowering.specs.Cache.{host as host_of, off_reg, oldest as oldest_of};
 ghost use Rattle.lowering.specs.Cache.{latest as latest_of, touch as touched, assign as assigned, mark as marked};
@@ -13,24 +13,11 @@ use arm::Access;
 use block::Layout;
 use lowering::RegCache;
 
-// The lookup's answer: a slot, or nothing.
+// What giving up a dirty slot costs: a host register is stored, at an offset in words.
 #[derive(Clone, Copy)]
-pub enum Found {
-    At(usize),
-    Nothing,
-}
-
-// What giving up a slot costs: a host register is stored, at an offset in words.
-#[derive(Clone, Copy)]
-pub enum Spill {
-    Store(u32, u32),
-    Nothing,
-}
-
-#[derive(Clone, Copy)]
-pub struct Taken {
-    pub i: usize,
-    pub spill: Spill,
+pub struct Spill {
+    pub h: u32,
+    pub at: u32,
 }
 
 // The words of a load and of a store in the processor record, at an offset in words.
@@ -52,86 +39,70 @@ pub fn host(i: usize) -> u32
     ensures { result ≡ host_of i }
 {
     let n = i as u32;
-    if n < 4 {
-        return n + 5;
-    }
-    n + 10
+    if n < 4 { n + 5 } else { n + 10 }
+}
+
+// The first slot that holds it.
+fn first(guest: &[u8; 8], r: u8) -> Option<usize>
+    ensures { result ≡ position (λ g. nat_eq g r) guest.now }
+{
+    guest.iter().position(|g| *g == r)
 }
 
 // The slot that holds guest register r; of 16, the first free one.
-pub fn slot(rc: RegCache, r: u8) -> Found
-    ensures { result ≡ lookup rc r }
+pub fn slot(rc: &RegCache, r: u8) -> Option<usize>
+    ensures { result ≡ lookup rc.now r }
 {
-    let guest = rc.guest;
-    let mut i: usize = 0;
-    while i < 8 {
-        if guest[i] == r {
-            return Found::At(i);
-        }
-        i += 1;
-    }
-    Found::Nothing
+    first(&rc.guest, r)
 }
 
 // The least recently used.
-pub fn oldest(rc: RegCache) -> usize
-    ensures { (result ≡ oldest_of rc) × (result < 8) }
+pub fn oldest(rc: &RegCache) -> usize
+    ensures { (result ≡ oldest_of rc.now) × (result < 8) }
 {
-    let first = rc.order[0];
-    (first % 8) as usize
+    (rc.order[0] % 8) as usize
 }
 
 // Slot i behind the others, which stay in their order.
-fn latest(order: [u8; 8], i: u8) -> [u8; 8]
-    ensures { result ≡ latest_of i order }
+fn latest(order: &mut [u8; 8], i: u8)
+    ensures { order.new ≡ latest_of i order.old }
 {
-    let mut q = order;
     let mut met = false;
-    let mut k: usize = 0;
-    while k < 7 {
+    for k in 0..7 {
         met = met | (order[k] == i);
         if met {
-            q[k] = order[k + 1];
+            order[k] = order[k + 1];
         }
-        k += 1;
     }
     if met {
-        q[7] = i;
+        order[7] = i;
     }
-    q
 }
 
 // One use more, of slot i.
-pub fn touch(rc: RegCache, i: usize) -> RegCache
+pub fn touch(rc: &mut RegCache, i: usize)
     requires { i < 8 }
-    ensures { result ≡ touched i rc }
+    ensures { rc.new ≡ touched i rc.old }
 {
-    let before = rc.order;
-    let order = latest(before, i as u8);
-    let mut q = rc;
-    q.order = order;
-    q
+    latest(&mut rc.order, i as u8);
 }
 
 // Slot i holds guest register r, unchanged.
-pub fn assign(rc: RegCache, i: usize, r: u8) -> RegCache
+pub fn assign(rc: &mut RegCache, i: usize, r: u8)
     requires { i < 8 }
-    ensures { result ≡ assigned i r rc }
+    ensures { rc.new ≡ assigned i r rc.old }
 {
-    let mut q = touch(rc, i);
-    q.guest[i] = r;
-    q.dirty[i] = false;
-    q
+    touch(rc, i);
+    rc.guest[i] = r;
+    rc.dirty[i] = false;
 }
 
 // Memory is behind slot i.
-pub fn mark(rc: RegCache, i: usize) -> RegCache
+pub fn mark(rc: &mut RegCache, i: usize)
     requires { i < 8 }
-    ensures { result ≡ marked i rc }
+    ensures { rc.new ≡ marked i rc.old }
 {
-    let mut q = rc;
-    q.dirty[i] = true;
-    q
+    rc.dirty[i] = true;
 }
 
 // Where guest register r is in the processor record, in words.
@@ -142,25 +113,21 @@ pub fn off_reg(lay: Layout, r: u8) -> u32
 }
 
 // A free slot, else the least recently used, which is stored first if it is dirty.
-pub fn take_slot(lay: Layout, rc: RegCache) -> Taken
-    ensures { Took lay rc result }
+pub fn take_slot(lay: Layout, rc: &RegCache) -> (usize, Option<Spill>)
+    ensures { Took lay rc.now result }
 {
-    let free = slot(rc, 16);
-    if let Found::At(i) = free {
-        return Taken {
-            i,
-            spill: Spill::Nothing,
-        };
+    if let Some(i) = slot(rc, 16) {
+        return (i, None);
     }
     let i = oldest(rc);
     if rc.dirty[i] {
-        return Taken {
+        return (
             i,
-            spill: Spill::Store(host(i), off_reg(lay, rc.guest[i])),
-        };
+            Some(Spill {
+                h: host(i),
+                at: off_reg(lay, rc.guest[i]),
+            }),
+        );
     }
-    Taken {
-        i,
-        spill: Spill::Nothing,
-    }
+    (i, None)
 }

@@ -1,4 +1,5 @@
 pub mod After
+pub mod Writes
 pub mod Registers
 pub mod Slots
 pub mod Carried

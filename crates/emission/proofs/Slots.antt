@@ -2,96 +2,106 @@
 use mathlib.Core.Path.{◌≡◌, refl, sym, ap, ◌∙◌}
 use mathlib.Core.Bool.{Bool, true, false, not, ◌&&◌}
 use mathlib.Core.List.{List, [], ◌∷◌}
-use Prim.Native.Nat.{ℕ, suc, ◌+◌, ◌/◌, ◌<◌, ◌≤◌}
+use Prim.Native.Nat.{ℕ, suc, ◌+◌, ◌<◌, ◌≤◌}
 use native.Mathlib.Numerals.{add-one}
 use native.Mathlib.Omega.{arith}
 use lib.Dec.{eqb}
 use lib.ListN.{length, get_or, drop, drop_of_length-le}
 use lib.Seq.{drop-cons}
-use borrow.Author.Tests.{eq-eqb, ne_eqb}
-use Rattle.arm.specs.declared.Access.TheVariants.{StrW, LdrW}
+use borrow.Author.Tests.{eq-eqb}
 use Rattle.arm.specs.declared.Instr.{Instr}
-use Rattle.arm.specs.declared.Instr.TheVariants.{MemoryImm}
 use Rattle.block.specs.declared.Layout.{Layout}
 use Rattle.code.specs.Items.{pick}
 use Rattle.lowering.specs.Instrs.{CPU, ldr, str}
 use Rattle.lowering.specs.Cache.{POOL, host, FREE, off_reg, flush_from, reload_from}
 use Rattle.words.specs.Answers.{answer, word_of}
-use Rattle.asm.specs.State.{State, word}
+use Rattle.asm.specs.declared.Asm.{Asm}
+use Rattle.asm.specs.State.{State, state, word, Wrote}
+use Rattle.asm.proofs.Wrote.{wrote-then, wrote-as, wrote-with}
 use Rattle.emission.specs.Total.{put_t, run_t, emitted, flushed, reloaded}
 
 -- ---- one instruction
-pub ins_by : (i : Instr) (w : ℕ) (s s₁ : State) → s₁ ≡ word w s → w ≡ word_of (answer i) → s₁ ≡ emitted (i ∷ []) s
+pub ins_by : (i : Instr) (w : ℕ) {a b : Asm} → w ≡ word_of (answer i) → Wrote a (word w (state a)) b → Wrote a (emitted (i ∷ []) (state a)) b
 unfolding emitted run_t put_t
-ins_by i w s s₁ p e = p ∙ ap (λ k. word k s) e
+ins_by i w {a} e p = wrote-as p (ap (λ k. word k (state a)) e)
 
 -- ---- one slot
-slot_kept : (lay : Layout) (h g : ℕ) (d : Bool) (s : State) → d ≡ false → s ≡ emitted (flushed lay h g d) s
-unfolding emitted run_t
-slot_kept lay h g d s e = rw e
+pub none_stored : (lay : Layout) (h r : ℕ) → r ≡ FREE → [] ≡ flushed lay h r true
+none_stored lay h r e = rw (eq-eqb r FREE e) refl
 
-pub slot-free : (lay : Layout) (h g : ℕ) (s : State) → g ≡ FREE → s ≡ emitted (flushed lay h g true) s
-unfolding emitted run_t
-slot-free lay h g s f = rw (eq-eqb g FREE f)
+pub none_loaded : (lay : Layout) (h r : ℕ) → r ≡ FREE → [] ≡ reloaded lay h r
+none_loaded lay h r e = rw (eq-eqb r FREE e) refl
 
--- ---- all slots
-run-pick : (lay : Layout) (h g : ℕ) (is : List Instr) (u : Bool) (s : State)
-    → emitted (pick u (str h CPU (off_reg lay g) ∷ is) is) s ≡ emitted is (emitted (pick u (str h CPU (off_reg lay g) ∷ []) []) s)
+-- ---- all slots: what is left of them, written from here, ends as all of them from the start
+pub record Onward (all rest : List Instr) (a b : Asm) : Type 0 where
+  pub ends : emitted all (state a) ≡ emitted rest (state b)
+  pub rooms : Wrote a (state b) b
+
+-- one slot more
+goes_on : (all rest next is : List Instr) {a b b' : Asm} → ((s : State) → emitted rest s ≡ emitted next (emitted is s)) → Onward all rest a b
+    → Wrote b (emitted is (state b)) b' → Onward all next a b'
+goes_on all rest next is {a} {b} {b'} t w p =
+    record { ends = w.ends ∙ t (state b) ∙ ap (emitted next) (sym p.code); rooms = wrote-with (wrote-then w.rooms p) refl }
+
+arrives : (all rest : List Instr) {a b : Asm} → rest ≡ [] → Onward all rest a b → Wrote a (emitted all (state a)) b
 unfolding emitted run_t
-run-pick lay h g is true s = refl
-run-pick lay h g is false s = refl
+arrives all rest {a} {b} e w = wrote-with w.rooms (sym (w.ends ∙ ap (λ is. emitted is (state b)) e))
+
+-- ---- a flush
+store_split : (lay : Layout) (h r : ℕ) (is : List Instr) (u : Bool) (s : State)
+    → emitted (pick u (str h CPU (off_reg lay r) ∷ is) is) s ≡ emitted is (emitted (pick u (str h CPU (off_reg lay r) ∷ []) []) s)
+unfolding emitted run_t
+store_split lay h r is true s = refl
+store_split lay h r is false s = refl
 
 -- what is left to store from slot i on
 abbrev pub left : Layout → List ℕ → List Bool → ℕ → List Instr
 left lay gs ds i = flush_from lay (drop i POOL) (drop i gs) (drop i ds)
 
-module _ (lay : Layout) (gs : List ℕ) (ds : List Bool) (a : length gs ≡ 8) (b : length ds ≡ 8) where
-  one_more : (i h : ℕ) (s₀ s s₁ : State) → i < 8 → h ≡ host i → emitted (left lay gs ds 0) s₀ ≡ emitted (left lay gs ds i) s
-      → s₁ ≡ emitted (flushed lay h (get_or gs i 0) (get_or ds i false)) s → emitted (left lay gs ds 0) s₀ ≡ emitted (left lay gs ds (i + 1)) s₁
+module _ (lay : Layout) (gs : List ℕ) (ds : List Bool) (i : ℕ) {a b : Asm} (w : Onward (left lay gs ds 0) (left lay gs ds i) a b) where
+  module _ (lg : length gs ≡ 8) (ld : length ds ≡ 8) (l : i < 8) where
+    one_more : (h : ℕ) (b' : Asm) → h ≡ host i → Wrote b (emitted (flushed lay h (get_or gs i 0) (get_or ds i false)) (state b)) b'
+        → Onward (left lay gs ds 0) (left lay gs ds (i + 1)) a b'
+    unfolding flush_from
+    one_more h b' o p =
+        goes_on _ _ _ (flushed lay h (get_or gs i 0) (get_or ds i false))
+        (λ s. rw (drop-cons POOL i 0 l, drop-cons gs i 0 (omega arith), drop-cons ds i false (omega arith), add-one, o)
+        (store_split lay (host i) (get_or gs i 0) (flush_from lay (drop (suc i) POOL) (drop (suc i) gs) (drop (suc i) ds)) (get_or ds i false && not (eqb (get_or gs i 0) FREE)) s))
+        w p
+
+    pub one_stored : (h : ℕ) (b' : Asm) → h ≡ host i → get_or ds i false ≡ true → Wrote b (emitted (flushed lay h (get_or gs i 0) true) (state b)) b'
+        → Onward (left lay gs ds 0) (left lay gs ds (i + 1)) a b'
+    one_stored h b' o d p = one_more h b' o (wrote-as p (ap (λ u. emitted (flushed lay h (get_or gs i 0) u) (state b)) (sym d)))
+
+    pub one_kept : get_or ds i false ≡ false → Onward (left lay gs ds 0) (left lay gs ds (i + 1)) a b
+    unfolding emitted run_t
+    one_kept d = one_more (host i) b refl (record { code = rw d refl; words = refl; table = refl })
+
+  pub all_stored : 8 ≤ i → Wrote a (emitted (left lay gs ds 0) (state a)) b
   unfolding flush_from
-  one_more i h s₀ s s₁ l o e p =
-      e
-      ∙ rw (drop-cons POOL i 0 l, drop-cons gs i 0 (omega arith), drop-cons ds i false (omega arith))
-      (run-pick lay (host i) (get_or gs i 0) (flush_from lay (drop (suc i) POOL) (drop (suc i) gs) (drop (suc i) ds)) (get_or ds i false && not (eqb (get_or gs i 0) FREE)) s
-      ∙ rw add-one (ap (emitted (flush_from lay (drop (suc i) POOL) (drop (suc i) gs) (drop (suc i) ds))) (sym (p ∙ ap (λ k. emitted (flushed lay k (get_or gs i 0) (get_or ds i false)) s) o))))
-
-  pub one_stored : (i h : ℕ) (s₀ s s₁ : State) → i < 8 → h ≡ host i → get_or ds i false ≡ true → emitted (left lay gs ds 0) s₀ ≡ emitted (left lay gs ds i) s
-      → s₁ ≡ emitted (flushed lay h (get_or gs i 0) true) s → emitted (left lay gs ds 0) s₀ ≡ emitted (left lay gs ds (i + 1)) s₁
-  one_stored i h s₀ s s₁ l o d e p = one_more i h s₀ s s₁ l o e (p ∙ ap (λ u. emitted (flushed lay h (get_or gs i 0) u) s) (sym d))
-
-  pub one_kept : (i : ℕ) (s₀ s : State) → i < 8 → get_or ds i false ≡ false → emitted (left lay gs ds 0) s₀ ≡ emitted (left lay gs ds i) s
-      → emitted (left lay gs ds 0) s₀ ≡ emitted (left lay gs ds (i + 1)) s
-  one_kept i s₀ s l d e = one_more i (host i) s₀ s s l refl e (slot_kept lay (host i) (get_or gs i 0) (get_or ds i false) s d)
-
-  pub all_done : (i : ℕ) (s₀ s : State) → 8 ≤ i → emitted (left lay gs ds 0) s₀ ≡ emitted (left lay gs ds i) s → s ≡ emitted (left lay gs ds 0) s₀
-  unfolding flush_from emitted run_t
-  all_done i s₀ s l e = sym (e ∙ rw (drop_of_length-le POOL l))
+  all_stored l = arrives _ _ (rw (drop_of_length-le POOL l) refl) w
 
 -- ---- a reload
-pub load-free : (lay : Layout) (h g : ℕ) (s : State) → g ≡ FREE → s ≡ emitted (reloaded lay h g) s
+load_split : (lay : Layout) (h r : ℕ) (is : List Instr) (u : Bool) (s : State)
+    → emitted (pick u is (ldr h CPU (off_reg lay r) ∷ is)) s ≡ emitted is (emitted (pick u [] (ldr h CPU (off_reg lay r) ∷ [])) s)
 unfolding emitted run_t
-load-free lay h g s e = rw (eq-eqb g FREE e)
-
-load-pick : (lay : Layout) (h g : ℕ) (is : List Instr) (u : Bool) (s : State)
-    → emitted (pick u is (ldr h CPU (off_reg lay g) ∷ is)) s ≡ emitted is (emitted (pick u [] (ldr h CPU (off_reg lay g) ∷ [])) s)
-unfolding emitted run_t
-load-pick lay h g is true s = refl
-load-pick lay h g is false s = refl
+load_split lay h r is true s = refl
+load_split lay h r is false s = refl
 
 -- what is left to load from slot i on
 abbrev pub unloaded : Layout → List ℕ → ℕ → List Instr
 unloaded lay gs i = reload_from lay (drop i POOL) (drop i gs)
 
-module _ (lay : Layout) (gs : List ℕ) (a : length gs ≡ 8) where
-  pub one_loaded : (i h : ℕ) (s₀ s s₁ : State) → i < 8 → h ≡ host i → emitted (unloaded lay gs 0) s₀ ≡ emitted (unloaded lay gs i) s
-      → s₁ ≡ emitted (reloaded lay h (get_or gs i 0)) s → emitted (unloaded lay gs 0) s₀ ≡ emitted (unloaded lay gs (i + 1)) s₁
+module _ (lay : Layout) (gs : List ℕ) (i : ℕ) {a b : Asm} (w : Onward (unloaded lay gs 0) (unloaded lay gs i) a b) where
+  pub one_loaded : length gs ≡ 8 → i < 8 → (h : ℕ) (b' : Asm) → h ≡ host i → Wrote b (emitted (reloaded lay h (get_or gs i 0)) (state b)) b'
+      → Onward (unloaded lay gs 0) (unloaded lay gs (i + 1)) a b'
   unfolding reload_from
-  one_loaded i h s₀ s s₁ l o e p =
-      e
-      ∙ rw (drop-cons POOL i 0 l, drop-cons gs i 0 (omega arith))
-      (load-pick lay (host i) (get_or gs i 0) (reload_from lay (drop (suc i) POOL) (drop (suc i) gs)) (eqb (get_or gs i 0) FREE) s
-      ∙ rw add-one (ap (emitted (reload_from lay (drop (suc i) POOL) (drop (suc i) gs))) (sym (p ∙ ap (λ k. emitted (reloaded lay k (get_or gs i 0)) s) o))))
+  one_loaded lg l h b' o p =
+      goes_on _ _ _ (reloaded lay h (get_or gs i 0))
+      (λ s. rw (drop-cons POOL i 0 l, drop-cons gs i 0 (omega arith), add-one, o)
+      (load_split lay (host i) (get_or gs i 0) (reload_from lay (drop (suc i) POOL) (drop (suc i) gs)) (eqb (get_or gs i 0) FREE) s))
+      w p
 
-  pub all_loaded : (i : ℕ) (s₀ s : State) → 8 ≤ i → emitted (unloaded lay gs 0) s₀ ≡ emitted (unloaded lay gs i) s → s ≡ emitted (unloaded lay gs 0) s₀
-  unfolding reload_from emitted run_t
-  all_loaded i s₀ s l e = sym (e ∙ rw (drop_of_length-le POOL l))
+  pub all_loaded : 8 ≤ i → Wrote a (emitted (unloaded lay gs 0) (state a)) b
+  unfolding reload_from
+  all_loaded l = arrives _ _ (rw (drop_of_length-le POOL l) refl) w

@@ -1,1 +1,3 @@
 pub mod Total
+pub mod Gen
+pub mod Emits

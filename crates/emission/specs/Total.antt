@@ -3,7 +3,8 @@ use Rattle.std.specs.Prelude.{Bool, not, ◌&&◌, List, [], ◌∷◌, ◌++◌
 use Rattle.arm.specs.declared.Instr.{Instr}
 use Rattle.block.specs.declared.Layout.{Layout}
 use Rattle.lowering.specs.Instrs.{CPU, ldr, str}
-use Rattle.lowering.specs.Cache.{FREE, off_reg}
+use Rattle.lowering.specs.declared.RegCache.{RegCache}
+use Rattle.lowering.specs.Cache.{host, FREE, off_reg, is_held, chosen, spill}
 use Rattle.code.specs.Items.{pick, Item, ins, go, new, bind}
 use Rattle.words.specs.Answers.{answer, word_of}
 use Rattle.code.specs.Tree.{Depth, Var, Code, code, lit, to, exit, block, start, ◌then◌, inside}
@@ -45,3 +46,7 @@ flushed lay h g d = pick (d && not (eqb g FREE)) (str h CPU (off_reg lay g) ∷ 
 -- a slot's part of a reload
 abbrev pub reloaded : Layout → (h g : ℕ) → List Instr
 reloaded lay h g = pick (eqb g FREE) [] (ldr h CPU (off_reg lay g) ∷ [])
+
+-- a guest register's way to a slot: nothing where it has one, else the spill, and its load if its value is asked for
+abbrev pub seating : Layout → RegCache → (r : ℕ) → (load : Bool) → List Instr
+seating lay rc r load = pick (is_held rc r) [] (spill lay rc ++ pick load (ldr (host (chosen rc)) CPU (off_reg lay r) ∷ []) [])

@@ -1,42 +1,46 @@
 // Emitting: instructions through their words, guest registers through the cache, and the cache's flush and reload.
 #![tactic(auto)]
 
-ghost use Rattle.std.specs.Prelude.{◌≡◌, true, List, [], ◌∷◌, ℕ, ◌+◌, ◌<◌, ◌≤◌};
+ghost use Rattle.std.specs.Prelude.{◌≡◌, true, false, List, [], ◌∷◌, ℕ, ◌+◌, ◌<◌, ◌≤◌};
 ghost use Rattle.arm.specs.declared.Instr.{Instr};
 ghost use Rattle.lowering.specs.Instrs.{mov as mov_of, mov_x, add_i, cmp as cmp_of};
-ghost use Rattle.lowering.specs.Cache.{flush as flush_of, reload as reload_of, seated, stored, ld_reg, st_reg};
+ghost use Rattle.lowering.specs.Cache.{flush as flush_of, reload as reload_of, slot_for, seated, stored, ld_reg, st_reg};
 ghost use Rattle.words.specs.Answers.{answer, word_of};
 ghost use Rattle.cache.specs.Lookup.{spilled};
-ghost use Rattle.asm.specs.State.{state};
-ghost use Rattle.emission.specs.Total.{emitted, flushed, reloaded};
+ghost use Rattle.asm.specs.State.{state, Wrote};
+ghost use Rattle.emission.specs.Total.{emitted, flushed, reloaded, seating};
+ghost use Rattle.emission.specs.Gen.{with_cache};
 
 use arm::{AddSub, Flags, Logic, Second, Shift, Size};
+use arrayvec::ArrayVec;
 use asm::Asm;
-use block::Layout;
-use cache::{Found, Spill};
-use lowering::RegCache;
+use block::{Addresses, Layout, Memory};
+use cache::Spill;
+use lowering::{RegCache, Site};
 
-// The code and the cache behind a guest register's move.
-#[derive(Clone, Copy)]
-pub struct Held {
-    pub a: Asm,
+// What the methods of `Gen` are given of a block, its register cache, and its chain sites so far. The assembler stands beside it,
+// since what it holds is lent.
+#[derive(Drop)]
+pub struct Gen {
+    pub lay: Layout,
+    pub mem: Memory,
+    pub addr: Addresses,
     pub rc: RegCache,
+    pub sites: ArrayVec<Site, 2>,
 }
 
 // One instruction by its word, which is 0 for one that no word carries.
-pub fn ins(out: &mut [u32], tab: &mut [u64; 6152], a: Asm, w: u32) -> Asm
-    ensures { (i : Instr) → w ≡ word_of (answer i) → state out.new tab.new result ≡ emitted (i ∷ []) (state out.old tab.old a) }
+pub fn ins(asm: &mut Asm, w: u32)
+    ensures { (i : Instr) → w ≡ word_of (answer i) → Wrote asm.old (emitted (i ∷ []) (state asm.old)) asm.new }
 {
-    asm::emit(out, tab, a, w)
+    asm.emit(w);
 }
 
-pub fn mov(out: &mut [u32], tab: &mut [u64; 6152], a: Asm, rd: u32, rm: u32) -> Asm
-    ensures { state out.new tab.new result ≡ emitted (mov_of rd rm ∷ []) (state out.old tab.old a) }
+pub fn mov(asm: &mut Asm, rd: u32, rm: u32)
+    ensures { Wrote asm.old (emitted (mov_of rd rm ∷ []) (state asm.old)) asm.new }
 {
     ins(
-        out,
-        tab,
-        a,
+        asm,
         words::logical_shifted(
             Size::W,
             Logic::Orr,
@@ -47,16 +51,14 @@ pub fn mov(out: &mut [u32], tab: &mut [u64; 6152], a: Asm, rd: u32, rm: u32) -> 
             31,
             rd,
         ),
-    )
+    );
 }
 
-pub fn mov_x(out: &mut [u32], tab: &mut [u64; 6152], a: Asm, rd: u32, rm: u32) -> Asm
-    ensures { state out.new tab.new result ≡ emitted (mov_x rd rm ∷ []) (state out.old tab.old a) }
+pub fn mov_x(asm: &mut Asm, rd: u32, rm: u32)
+    ensures { Wrote asm.old (emitted (mov_x rd rm ∷ []) (state asm.old)) asm.new }
 {
     ins(
-        out,
-        tab,
-        a,
+        asm,
         words::logical_shifted(
             Size::X,
             Logic::Orr,
@@ -67,152 +69,110 @@ pub fn mov_x(out: &mut [u32], tab: &mut [u64; 6152], a: Asm, rd: u32, rm: u32) -
             31,
             rd,
         ),
-    )
+    );
 }
 
-pub fn add_imm(out: &mut [u32], tab: &mut [u64; 6152], a: Asm, rd: u32, rn: u32, imm: u32) -> Asm
-    ensures { state out.new tab.new result ≡ emitted (add_i rd rn imm ∷ []) (state out.old tab.old a) }
+pub fn add_imm(asm: &mut Asm, rd: u32, rn: u32, imm: u32)
+    ensures { Wrote asm.old (emitted (add_i rd rn imm ∷ []) (state asm.old)) asm.new }
 {
     ins(
-        out,
-        tab,
-        a,
+        asm,
         words::add_sub_imm(Size::W, AddSub::Add, Flags::Keeps, imm, rn, rd),
-    )
+    );
 }
 
-pub fn cmp(out: &mut [u32], tab: &mut [u64; 6152], a: Asm, rn: u32, rm: u32) -> Asm
-    ensures { state out.new tab.new result ≡ emitted (cmp_of rn rm ∷ []) (state out.old tab.old a) }
+pub fn cmp(asm: &mut Asm, rn: u32, rm: u32)
+    ensures { Wrote asm.old (emitted (cmp_of rn rm ∷ []) (state asm.old)) asm.new }
 {
     ins(
-        out,
-        tab,
-        a,
+        asm,
         words::add_sub_shifted(Size::W, AddSub::Sub, Flags::Sets, Shift::Lsl, rm, 0, rn, 31),
-    )
+    );
 }
 
 // What host register h holds is stored, if it is a guest register.
-fn flush_slot(out: &mut [u32], tab: &mut [u64; 6152], a: Asm, lay: Layout, h: u32, g: u8) -> Asm
-    ensures { state out.new tab.new result ≡ emitted (flushed lay h g true) (state out.old tab.old a) }
+fn flush_slot(asm: &mut Asm, lay: Layout, h: u32, r: u8)
+    ensures { Wrote asm.old (emitted (flushed lay h r true) (state asm.old)) asm.new }
 {
-    if g != 16 {
-        return ins(out, tab, a, cache::str(h, cache::off_reg(lay, g)));
+    if r != 16 {
+        ins(asm, cache::str(h, cache::off_reg(lay, r)));
     }
-    a
 }
 
 // The changed registers are stored, in pool order. The marks stay.
-pub fn flush(out: &mut [u32], tab: &mut [u64; 6152], a: Asm, lay: Layout, rc: RegCache) -> Asm
-    ensures { state out.new tab.new result ≡ emitted (flush_of lay rc) (state out.old tab.old a) }
+pub fn flush(asm: &mut Asm, g: &Gen)
+    ensures { Wrote asm.old (emitted (flush_of g.now.lay g.now.rc) (state asm.old)) asm.new }
 {
-    let guest = rc.guest;
-    let dirty = rc.dirty;
-    let mut q = a;
-    let mut i: usize = 0;
-    while i < 8 {
-        if dirty[i] {
-            q = flush_slot(out, tab, q, lay, cache::host(i), guest[i]);
+    let guest: &[u8] = &g.rc.guest;
+    for (i, dirty) in g.rc.dirty.iter().enumerate() {
+        if *dirty {
+            flush_slot(asm, g.lay, cache::host(i), guest[i]);
         }
-        i += 1;
     }
-    q
 }
 
-// Host register h holds guest register g again, if it is one.
-fn reload_slot(out: &mut [u32], tab: &mut [u64; 6152], a: Asm, lay: Layout, h: u32, g: u8) -> Asm
-    ensures { state out.new tab.new result ≡ emitted (reloaded lay h g) (state out.old tab.old a) }
+// Host register h holds guest register r again, if it is one.
+fn reload_slot(asm: &mut Asm, lay: Layout, h: u32, r: u8)
+    ensures { Wrote asm.old (emitted (reloaded lay h r) (state asm.old)) asm.new }
 {
-    if g != 16 {
-        return ins(out, tab, a, cache::ldr(h, cache::off_reg(lay, g)));
+    if r != 16 {
+        ins(asm, cache::ldr(h, cache::off_reg(lay, r)));
     }
-    a
 }
 
 // The held registers are loaded again, in pool order.
-pub fn reload(out: &mut [u32], tab: &mut [u64; 6152], a: Asm, lay: Layout, rc: RegCache) -> Asm
-    ensures { state out.new tab.new result ≡ emitted (reload_of lay rc) (state out.old tab.old a) }
+pub fn reload(asm: &mut Asm, g: &Gen)
+    ensures { Wrote asm.old (emitted (reload_of g.now.lay g.now.rc) (state asm.old)) asm.new }
 {
-    let guest = rc.guest;
-    let mut q = a;
-    let mut i: usize = 0;
-    while i < 8 {
-        q = reload_slot(out, tab, q, lay, cache::host(i), guest[i]);
-        i += 1;
+    for (i, r) in g.rc.guest.iter().enumerate() {
+        reload_slot(asm, g.lay, cache::host(i), *r);
     }
-    q
 }
 
 // What a slot's new holder puts out.
-fn spill(out: &mut [u32], tab: &mut [u64; 6152], a: Asm, s: Spill) -> Asm
-    ensures { state out.new tab.new result ≡ emitted (spilled s) (state out.old tab.old a) }
+fn spill(asm: &mut Asm, s: Option<Spill>)
+    ensures { Wrote asm.old (emitted (spilled s) (state asm.old)) asm.new }
 {
-    match s {
-        Spill::Store(h, at) => ins(out, tab, a, cache::str(h, at)),
-        Spill::Nothing => a,
+    if let Some(s) = s {
+        ins(asm, cache::str(s.h, s.at));
     }
+}
+
+// The slot of guest register r, used once more; where r has none yet, it gets one, and its value if that is asked for.
+fn seat(asm: &mut Asm, g: &mut Gen, r: u8, load: bool) -> usize
+    ensures slot { result ≡ slot_for g.old.rc r }
+    ensures small { result < 8 }
+    ensures wrote { Wrote asm.old (emitted (seating g.old.lay g.old.rc r load) (state asm.old)) asm.new }
+    ensures cache { g.new ≡ with_cache g.old (seated g.old.rc r) }
+{
+    if let Some(i) = cache::slot(&g.rc, r) {
+        cache::touch(&mut g.rc, i);
+        return i;
+    }
+    let (i, spilled) = cache::take_slot(g.lay, &g.rc);
+    spill(asm, spilled);
+    if load {
+        ins(asm, cache::ldr(cache::host(i), cache::off_reg(g.lay, r)));
+    }
+    cache::assign(&mut g.rc, i, r);
+    i
 }
 
 // w(t) = guest register r
-pub fn ld_reg(
-    out: &mut [u32],
-    tab: &mut [u64; 6152],
-    a: Asm,
-    lay: Layout,
-    rc: RegCache,
-    t: u32,
-    r: u8,
-) -> Held
-    ensures { (state out.new tab.new result.a ≡ emitted (ld_reg lay rc t r) (state out.old tab.old a)) × (result.rc ≡ seated rc r) }
+pub fn ld_reg(asm: &mut Asm, g: &mut Gen, t: u32, r: u8)
+    ensures wrote { Wrote asm.old (emitted (ld_reg g.old.lay g.old.rc t r) (state asm.old)) asm.new }
+    ensures cache { g.new ≡ with_cache g.old (seated g.old.rc r) }
 {
-    let found = cache::slot(rc, r);
-    if let Found::At(i) = found {
-        let moved = mov(out, tab, a, t, cache::host(i));
-        return Held {
-            a: moved,
-            rc: cache::touch(rc, i),
-        };
-    }
-    let taken = cache::take_slot(lay, rc);
-    let i = taken.i;
-    let h = cache::host(i);
-    let s = taken.spill;
-    let freed = spill(out, tab, a, s);
-    let filled = ins(out, tab, freed, cache::ldr(h, cache::off_reg(lay, r)));
-    let moved = mov(out, tab, filled, t, h);
-    Held {
-        a: moved,
-        rc: cache::assign(rc, i, r),
-    }
+    let i = seat(asm, g, r, true);
+    mov(asm, t, cache::host(i));
 }
 
 // guest register r = w(t)
-pub fn st_reg(
-    out: &mut [u32],
-    tab: &mut [u64; 6152],
-    a: Asm,
-    lay: Layout,
-    rc: RegCache,
-    t: u32,
-    r: u8,
-) -> Held
-    ensures { (state out.new tab.new result.a ≡ emitted (st_reg lay rc t r) (state out.old tab.old a)) × (result.rc ≡ stored rc r) }
+pub fn st_reg(asm: &mut Asm, g: &mut Gen, t: u32, r: u8)
+    ensures wrote { Wrote asm.old (emitted (st_reg g.old.lay g.old.rc t r) (state asm.old)) asm.new }
+    ensures cache { g.new ≡ with_cache g.old (stored g.old.rc r) }
 {
-    let found = cache::slot(rc, r);
-    if let Found::At(i) = found {
-        let moved = mov(out, tab, a, cache::host(i), t);
-        return Held {
-            a: moved,
-            rc: cache::mark(cache::touch(rc, i), i),
-        };
-    }
-    let taken = cache::take_slot(lay, rc);
-    let i = taken.i;
-    let s = taken.spill;
-    let freed = spill(out, tab, a, s);
-    let moved = mov(out, tab, freed, cache::host(i), t);
-    Held {
-        a: moved,
-        rc: cache::mark(cache::assign(rc, i, r), i),
-    }
+    let i = seat(asm, g, r, false);
+    mov(asm, cache::host(i), t);
+    cache::mark(&mut g.rc, i);
 }

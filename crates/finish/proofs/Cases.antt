@@ -1,5 +1,5 @@
 -- What each way through the code of `finish` leaves.
-use Rattle.std.proofs.Common.{◌≡◌, ℕ, zero, suc, ◌+◌, ◌*◌, ◌/◌, ◌%◌, ◌^◌, ◌<◌, ◌≤◌, Bool, true, false, ltb, ◌≢◌, List, [], ◌∷◌, ◌++◌, length, get_or, drop, set, replicate, ℤ, pos, negsuc, sym, refl, ap, ◌∙◌, ap₂, append-nil, add-one, arith, length-set, drop_of_length-le, ltb-false, ltb-true, le-ltb, lt-ltb, ne_eqb}
+use Rattle.std.proofs.Common.{◌≡◌, ℕ, zero, suc, ◌+◌, ◌*◌, ◌/◌, ◌%◌, ◌^◌, ◌<◌, ◌≤◌, Bool, true, false, ltb, ◌≢◌, List, [], ◌∷◌, ◌++◌, length, get_or, drop, set, replicate, ℤ, pos, negsuc, sym, refl, ap, ◌∙◌, ap₂, append-nil, add-one, arith, length-set, drop_of_length-le, Ok, Err, ltb-false, ltb-true, le-ltb, lt-ltb, ne_eqb}
 use Rattle.code.specs.Items.{dist, bytes, halves, pad_of, base_of}
 use Rattle.code.specs.declared.Fix.{Fix}
 use Rattle.code.specs.declared.Fix.TheVariants.{B26, B19, B14, Adr21}
@@ -7,9 +7,9 @@ use Rattle.code.proofs.Reach.{halves-length}
 use Rattle.asm.specs.declared.Reference.{Reference}
 use Rattle.asm.specs.declared.Reference.TheVariants.{ToPool}
 use Rattle.asm.specs.State.{fixup_room, literals_at, fixups_at, ref_of, State, at_most, kept, held, literals_from}
+use Rattle.asm.proofs.Cases.{literals-length}
 use Rattle.finish.specs.Finish.{field_of, patch_in, field_in, lead_in, patched_with, patched_cell, patched_at, patched_to}
-use Rattle.finish.specs.Finish.{write, zeros, written, needed, before_walk, walked_to, finished, finished_words}
-use Rattle.finish.specs.declared.Finished.TheVariants.{Words, Short}
+use Rattle.finish.specs.Finish.{write, zeros, written, needed, short_of, before_walk, walked_to, finished, finished_words}
 
 -- ---- the field of each kind
 bytes-dist : (t h : ℕ) → dist (4 * t) (4 * h) ≡ bytes (dist t h)
@@ -93,11 +93,6 @@ unfolding halves
 halves-append [] ys = refl
 halves-append (x ∷ xs) ys = ap {B = List ℕ} (λ r. x % 2 ^ 32 ∷ x / 2 ^ 32 ∷ r) (halves-append xs ys)
 
-pub literals-length : (i k : ℕ) (t : List ℕ) → length (literals_from i k t) ≡ k
-unfolding literals_from
-literals-length i zero t = refl
-literals-length i (suc k) t = ap suc (literals-length (suc i) k t)
-
 pool-step : (base i v : ℕ) (t ws ws' ws₁ ws₂ : List ℕ) → ws' ≡ write base (halves (literals_from 0 i t)) ws → v ≡ get_or t (literals_at + i) 0
     → ws₁ ≡ set ws' (base + 2 * i) (v % 4294967296) → ws₂ ≡ set ws₁ (base + 2 * i + 1) (v / 4294967296) → ws₂ ≡ write base (halves (literals_from 0 (i + 1) t)) ws
 unfolding write halves
@@ -116,11 +111,6 @@ pub pool_more : (base i low high : ℕ) (t ws ws' ws₁ ws₂ : List ℕ) → ws
     → ws₁ ≡ set ws' (base + 2 * i) low → ws₂ ≡ set ws₁ (base + 2 * i + 1) high → ws₂ ≡ write base (halves (literals_from 0 (i + 1) t)) ws
 pool_more base i low high t ws ws' ws₁ ws₂ p l h q r =
     pool-step base i (get_or t (literals_at + i) 0) t ws ws' ws₁ ws₂ p refl (q ∙ ap (set ws' (base + 2 * i)) l) (r ∙ ap (set ws₁ (base + 2 * i + 1)) h)
-
--- ---- zeros
-pub zeros_all : (i : ℕ) (d w : List ℕ) → w ≡ replicate i 0 ++ drop i d → i ≤ length d → length d ≤ i → w ≡ zeros d
-unfolding zeros
-zeros_all i d w p l m = let e : i ≡ length d = omega arith in p ∙ rw (drop_of_length-le d m, append-nil, e)
 
 -- ---- the whole
 pub write-length : (p : ℕ) (xs ws : List ℕ) → length (write p xs ws) ≡ length ws
@@ -159,14 +149,14 @@ module _ (s : State) (k n base : ℕ) (ws₁ ws₂ : List ℕ) (h : Pooled s k n
   length_is = ap length words_are ∙ write-length (written s) (pad_of (written s) (held s) ++ halves (held s)) s.words
 
   pub finish-short : (upto : ℕ) (ws₃ : List ℕ) → length ws₂ < base + 2 * k → ws₃ ≡ zeros ws₂
-      → (Short (base + 2 * k) ≡ finished s) × (ws₃ ≡ finished_words upto s)
+      → (Err (short_of (base + 2 * k)) ≡ finished s) × (ws₃ ≡ finished_words upto s)
   unfolding finished finished_words zeros
   finish-short upto ws₃ l z =
       let t : ltb (length s.words) (needed s) ≡ true = lt-ltb (length s.words) (needed s) (omega (arith, needed_is, length_is)) in
       (rw (t, ← needed_is), rw t (z ∙ ap (λ n. replicate n 0) length_is))
 
   pub finish_long : (upto f : ℕ) (ws₃ : List ℕ) → base + 2 * k ≤ length ws₂ → f ≡ at_most s.asm.fixups upto
-      → ws₃ ≡ patched_to s.tab base (at_most fixup_room f) ws₂ → (Words (base + 2 * k) ≡ finished s) × (ws₃ ≡ finished_words upto s)
+      → ws₃ ≡ patched_to s.tab base (at_most fixup_room f) ws₂ → (Ok (base + 2 * k) ≡ finished s) × (ws₃ ≡ finished_words upto s)
   unfolding finished finished_words
   finish_long upto f ws₃ l e z =
       let t : ltb (length s.words) (needed s) ≡ false = le-ltb (length s.words) (needed s) (omega (arith, needed_is, length_is)) in

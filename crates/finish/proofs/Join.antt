@@ -1,5 +1,5 @@
 -- What is emitted and finished is the block's words in the lent room.
-use Rattle.std.proofs.Common.{◌≡◌, ℕ, suc, ◌+◌, ◌*◌, ◌<◌, ◌≤◌, Bool, true, false, eqb, ltb, List, [], ◌∷◌, ◌++◌, map, length, get_or, take, replicate, sym, refl, ap, ◌∙◌, subst, ap₂, append-nil, arith, length-append, length-take-le, get_or-take, ltb-false, ltb-true, le-ltb, eqb-true}
+use Rattle.std.proofs.Common.{◌≡◌, ℕ, suc, ◌+◌, ◌*◌, ◌<◌, ◌≤◌, Bool, true, false, eqb, ltb, List, [], ◌∷◌, ◌++◌, map, length, get_or, take, replicate, sym, refl, ap, ◌∙◌, subst, ap₂, append-nil, arith, length-append, length-take-le, get_or-take, ltb-false, ltb-true, le-ltb, eqb-true, Ok, Err}
 use lib.ListN.{length-map}
 use lib.Seq.{append_snoc}
 use Rattle.arm.specs.declared.Instr.{Instr}
@@ -15,10 +15,9 @@ use Rattle.code.proofs.Tree.{whole-once, whole_met, whole_below, whole-size, who
 use Rattle.code.proofs.Order.{lay-put, lay-length}
 use Rattle.code.proofs.Walk.{walked_all, walked-length, pooled_is, fixes_are, walked-lent}
 use Rattle.code.proofs.Reach.{halves-length, whole-reach, emitted}
-use Rattle.asm.specs.State.{label_room, fixup_room, table_room, State, state, begin, at_most, held, run}
-use Rattle.finish.specs.Finish.{patched_to, write, zeros, written, needed, before_walk, walked_to, finished, finished_words}
+use Rattle.asm.specs.State.{label_room, fixup_room, table_room, State, parts, begin, at_most, held, run}
+use Rattle.finish.specs.Finish.{patched_to, write, zeros, written, needed, before_walk, walked_to, finished, finished_words, short_of}
 use Rattle.finish.specs.Whole.{laid, told, count_of, Held}
-use Rattle.finish.specs.declared.Finished.TheVariants.{Words, Short}
 use Rattle.finish.proofs.Track.{Tracks, kept_is, held_is, news, goes, Roomy, tracks-run}
 use Rattle.finish.proofs.Walk.{Loads, Goods, goods, walk}
 
@@ -224,9 +223,9 @@ module _ (tab : List ℕ) (full : length tab ≡ table_room) (c : Code top) (end
 
   module _ (lent : List ℕ) where
     abbrev s : State
-    s = run is (state lent tab begin)
+    s = run is (parts lent tab begin)
 
-    begun : Tracks lent (state lent tab begin) (start_e table)
+    begun : Tracks lent (parts lent tab begin) (start_e table)
     unfolding start_e
     begun = record {
       words = refl;
@@ -243,7 +242,7 @@ module _ (tab : List ℕ) (full : length tab ≡ table_room) (c : Code top) (end
     }
 
     tracks : Tracks lent s p
-    tracks = tracks-run lent is (state lent tab begin) (start_e table) begun roomy
+    tracks = tracks-run lent is (parts lent tab begin) (start_e table) begun roomy
 
     written_is : written s ≡ length p.words
     written_is = ap (at_most 1048576) tracks.at ∙ rw (le-ltb 1048576 (length p.words) (omega (arith, words-length, size_is, h.short)))
@@ -297,7 +296,7 @@ module _ (tab : List ℕ) (full : length tab ≡ table_room) (c : Code top) (end
           pick_same (length s.words) (length lent) (needed s) (length (walked_words n ls)) _ _ _ _ room_is (needed_is ∙ sym (walked-length ls n))
           (ap (λ n. replicate n 0) room_is) (words_are n),
       pick_same (length s.words) (length lent) (needed s) (length (lines_words ls)) _ _ _ _ room_is needed_is
-          (ap Short needed_is) (ap Words needed_is),
+          (ap (λ n. Err (short_of n)) needed_is) (ap Ok needed_is),
     )
 
 -- words that fit are laid
@@ -310,6 +309,6 @@ pub count-told : (ws lent : List ℕ) → count_of (told ws lent) ≡ length ws
 unfolding told
 count-told ws lent = by (ltb (length lent) (length ws))
   where
-    by : (t : Bool) → count_of (pick t (Short (length ws)) (Words (length ws))) ≡ length ws
+    by : (t : Bool) → count_of (pick t (Err (short_of (length ws))) (Ok (length ws))) ≡ length ws
     by true = refl
     by false = refl

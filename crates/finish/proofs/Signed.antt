@@ -1,7 +1,7 @@
 -- Signed distances: the code's tests and sums give the field of a distance in reach, and 0 beyond.
-use Rattle.std.proofs.Common.{◌≡◌, ℕ, zero, suc, ◌+◌, ◌-◌, ◌*◌, ◌^◌, ◌<◌, ◌≤◌, Bool, true, false, cond, ltb, ℤ, pos, negsuc, ◌+ℤ◌, ◌-ℤ◌, nat_abs, refl, ap, arith, to_z-of_z, w64, to_z, of_z, ltb-false, ltb-true, le-ltb, lt-ltb, leb-false, leb-true}
+use Rattle.std.proofs.Common.{◌≡◌, ℕ, suc, ◌+◌, ◌-◌, ◌*◌, ◌^◌, ◌<◌, ◌≤◌, Bool, true, false, cond, ltb, ℤ, pos, negsuc, ◌+ℤ◌, nat_abs, refl, arith, to_z-of_z, w64, to_z, of_z, ltb-false, ltb-true, le-ltb, lt-ltb, leb-false, leb-true}
 use lib.Signed.{lt_z, le_z, mag}
-use Rattle.code.specs.Items.{pick, dist}
+use Rattle.code.specs.Items.{pick}
 use Rattle.finish.specs.Finish.{field_of}
 
 -- ---- the difference of two positions

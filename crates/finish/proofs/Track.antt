@@ -16,7 +16,7 @@ use Rattle.code.proofs.Order.{lay-put}
 use Rattle.asm.specs.declared.Reference.{Reference}
 use Rattle.asm.specs.declared.Reference.TheVariants.{ToLabel, ToPool}
 use Rattle.asm.specs.State.{label_room, literal_room, fixup_room, literals_at, fixups_at, table_room}
-use Rattle.asm.specs.State.{State, state, counts, at_most, labelled, label_of, packed, fixup, literals_from, word, made, fixed, kept, held}
+use Rattle.asm.specs.State.{State, parts, counts, at_most, labelled, label_of, packed, fixup, literals_from, word, made, fixed, kept, held}
 use Rattle.asm.specs.State.{keep_at, put, run}
 
 -- a fix-up's reference as the code has it, and its number in the table
@@ -193,7 +193,7 @@ module _ (lent : List ℕ) (s : State) (p : St) (t : Tracks lent s p) where
 
   -- one literal more
   kept_new : (v : ℕ) → length p.pool < literal_room
-      → Tracks lent (state s.words (set s.tab (literals_at + kept s) v) (counts s.asm.at s.asm.labels s.asm.fixups (suc (kept s)))) (pooled p (p.pool ++ (v ∷ [])))
+      → Tracks lent (parts s.words (set s.tab (literals_at + kept s) v) (counts s.asm.at s.asm.labels s.asm.fixups (suc (kept s)))) (pooled p (p.pool ++ (v ∷ [])))
   kept_new v h =
       let k : ℕ = kept s in
       let e : k ≡ length p.pool = kept_is in

@@ -1,13 +1,12 @@
 -- What `finish` leaves: the pool behind the words, then each distance in its field, patch by patch; or zeros where the room is short.
-use Rattle.std.specs.Prelude.{ℕ, zero, suc, ◌+◌, ◌*◌, ◌/◌, ◌%◌, ◌^◌, Bool, List, [], ◌∷◌, ◌++◌, length, replicate, ℤ, pos, negsuc, nat_lt, slice_index, slice_set}
+use Rattle.std.specs.Prelude.{ℕ, zero, suc, ◌+◌, ◌*◌, ◌/◌, ◌%◌, ◌^◌, Bool, List, [], ◌∷◌, ◌++◌, length, replicate, ℤ, pos, negsuc, nat_lt, slice_index, slice_set, Result, Ok, Err}
 use Rattle.code.specs.Items.{pick, twos, bytes, dist, halves, pad_of, base_of}
 use Rattle.code.specs.declared.Fix.{Fix}
 use Rattle.code.specs.declared.Fix.TheVariants.{B26, B19, B14, Adr21}
 use Rattle.asm.specs.declared.Reference.{Reference}
 use Rattle.asm.specs.declared.Reference.TheVariants.{ToLabel, ToPool}
 use Rattle.asm.specs.State.{label_room, fixup_room, fixups_at, ref_of, State, at_most, kept, held}
-use Rattle.finish.specs.declared.Finished.{Finished}
-use Rattle.finish.specs.declared.Finished.TheVariants.{Words, Short}
+use Rattle.finish.specs.declared.Short.{Short}
 
 -- ---- a distance in its field, tested for its range
 abbrev pub within : ℕ → ℤ → Bool
@@ -65,8 +64,12 @@ written s = at_most 1048576 s.asm.at
 unfoldable pub needed : State → ℕ
 needed s = base_of (written s) (held s) + 2 * kept s
 
-unfoldable pub finished : State → Finished
-finished s = pick (nat_lt (length s.words) (needed s)) (Short (needed s)) (Words (needed s))
+-- fewer words are lent than these
+abbrev pub short_of : ℕ → Short
+short_of n = record { 0 = n }
+
+unfoldable pub finished : State → Result ℕ Short
+finished s = pick (nat_lt (length s.words) (needed s)) (Err (short_of (needed s))) (Ok (needed s))
 
 -- before the walk: the pool behind the words
 abbrev pub before_walk : State → List ℕ

@@ -1,10 +1,10 @@
 // The end of an assembly: the literal pool behind the words, then each distance in its field.
 #![tactic(auto)]
 
-ghost use Rattle.std.specs.Prelude.{◌≡◌, ◌+◌, ◌*◌, ◌/◌, ◌%◌, ◌^◌, ◌<◌, ◌≤◌, length, slice_index, slice_set};
+ghost use Rattle.std.specs.Prelude.{◌≡◌, ◌+◌, ◌*◌, ◌/◌, ◌%◌, ◌^◌, ◌<◌, ◌≤◌, slice_index, slice_set};
 ghost use Rattle.std.specs.Int.Signed.{mag};
 ghost use Rattle.code.specs.Items.{dist, halves, pad_of, base_of};
-ghost use Rattle.asm.specs.State.{literal_room, fixup_room, state, at_most, literals_from};
+ghost use Rattle.asm.specs.State.{literal_room, fixup_room, parts, state, Wrote, at_most, literals_from};
 ghost use Rattle.finish.specs.Finish.{field_of, patch_in, field_in, label_in, lead_in, patched_at, patched_to};
 ghost use Rattle.finish.specs.Finish.{write, zeros, finished, finished_words};
 ghost use Rattle.finish.specs.Whole.{count_of};
@@ -12,20 +12,17 @@ ghost use Rattle.finish.specs.Whole.{count_of};
 use asm::{Asm, Label, Reference};
 use code::Fix;
 
-// The words of a block, or how many are needed where fewer are lent.
+// Fewer words are lent than a block takes, which is so many.
 #[derive(Clone, Copy)]
-pub enum Finished {
-    Words(u32),
-    Short(u32),
-}
+pub struct Short(pub u32);
 
 // How many words a block takes, whether as many are lent or not.
-pub fn count(f: Finished) -> u32
-    ensures { result ≡ count_of f }
+pub fn count(finished: Result<u32, Short>) -> u32
+    ensures { result ≡ count_of finished }
 {
-    match f {
-        Finished::Words(n) => n,
-        Finished::Short(n) => n,
+    match finished {
+        Ok(n) => n,
+        Err(Short(n)) => n,
     }
 }
 
@@ -78,38 +75,38 @@ fn field(half: u32, distance: i64) -> u32
 }
 
 // Where a label stands.
-fn label_at(tab: &[u64; asm::TABLE], l: Label) -> u64
-    ensures { (result ≡ label_in tab.now l.0) × (result < 2 ^ 32) }
+fn label_at(table: &[u64; asm::TABLE], l: Label) -> u64
+    ensures { (result ≡ label_in table.now l.0) × (result < 2 ^ 32) }
 {
     let n = l.0;
     if n < asm::LABELS {
-        return tab[n as usize] % 4294967296;
+        return table[n as usize] % 4294967296;
     }
     0
 }
 
 // What is added to a word for its distance to a label, in words; the distance of `adr` is in bytes, its two lowest bits apart.
-fn label_patch(tab: &[u64; asm::TABLE], f: Fix, l: Label, here: u32) -> u32
-    ensures { result ≡ patch_in f (dist (label_in tab.now l.0) here) }
+fn label_patch(table: &[u64; asm::TABLE], f: Fix, l: Label, here: u32) -> u32
+    ensures { result ≡ patch_in f (dist (label_in table.now l.0) here) }
 {
     let h = here as u64;
     match f {
-        Fix::B26 => field(HALF26, distance(label_at(tab, l), h)),
-        Fix::B19 => field(HALF19, distance(label_at(tab, l), h)) * 32,
-        Fix::B14 => field(HALF14, distance(label_at(tab, l), h)) * 32,
+        Fix::B26 => field(HALF26, distance(label_at(table, l), h)),
+        Fix::B19 => field(HALF19, distance(label_at(table, l), h)) * 32,
+        Fix::B14 => field(HALF14, distance(label_at(table, l), h)) * 32,
         Fix::Adr21 => {
-            let bytes = field(HALF21, distance(4 * label_at(tab, l), 4 * h));
+            let bytes = field(HALF21, distance(4 * label_at(table, l), 4 * h));
             bytes % 4 * 536870912 + bytes / 4 * 32
         }
     }
 }
 
 // The same to where a reference leads: to a label, or to a literal of the pool.
-fn patch(tab: &[u64; asm::TABLE], base: u32, to: Reference, here: u32) -> u32
-    ensures { result ≡ patch_in (field_in to) (dist (lead_in tab.now base to) here) }
+fn patch(table: &[u64; asm::TABLE], base: u32, to: Reference, here: u32) -> u32
+    ensures { result ≡ patch_in (field_in to) (dist (lead_in table.now base to) here) }
 {
     match to {
-        Reference::ToLabel(l, f) => label_patch(tab, f, l, here),
+        Reference::ToLabel(l, f) => label_patch(table, f, l, here),
         Reference::ToPool(i) => {
             let there = (base as u64) + 2 * (i as u64);
             field(HALF19, distance(there, here as u64)) * 32
@@ -117,45 +114,44 @@ fn patch(tab: &[u64; asm::TABLE], base: u32, to: Reference, here: u32) -> u32
     }
 }
 
+// From here on words and table are taken, not the assembler: that the table stays as it is, `&` says.
 fn patch_at(words: &mut [u32], at: u32, f: u32)
     ensures { words.new ≡ slice_set words.old at ((slice_index words.old at + f) % 2 ^ 32) }
 {
     let i = at as usize;
     if i < words.len() {
-        let w = words[i];
-        words[i] = std::num::wrapping_add_u32(w, f);
+        words[i] = words[i].wrapping_add(f);
     }
 }
 
 // Fix-up n.
-fn patch_one(words: &mut [u32], tab: &[u64; asm::TABLE], base: u32, n: u32)
+fn patch_one(words: &mut [u32], table: &[u64; asm::TABLE], base: u32, n: u32)
     requires { n < fixup_room }
-    ensures { words.new ≡ patched_at tab.now base n words.old }
+    ensures { words.new ≡ patched_at table.now base n words.old }
 {
-    let e = tab[asm::FIXUPS_AT + (n as usize)];
+    let e = table[asm::FIXUPS_AT + (n as usize)];
     let at = high(e);
     let to = asm::ref_of(low(e));
-    let f = patch(tab, base, to, at);
+    let f = patch(table, base, to, at);
     patch_at(words, at, f);
 }
 
 // The first `upto` fix-ups of the table, from number 0 on, each added to its word. Of a table that a block's code filled the positions
 // rise (code, `OneWalk`). The Rust patches the literal references first, with the same words (code, `two_walks`).
-pub fn patch_to(words: &mut [u32], tab: &[u64; asm::TABLE], base: u32, upto: u32)
-    ensures { words.new ≡ patched_to tab.now base (at_most fixup_room upto) words.old }
+pub fn patch_to(words: &mut [u32], table: &[u64; asm::TABLE], base: u32, upto: u32)
+    ensures { words.new ≡ patched_to table.now base (at_most fixup_room upto) words.old }
 {
     let end = asm::at_most(asm::FIXUPS, upto);
-    let mut n: u32 = 0;
-    while n < end {
-        patch_one(words, tab, base, n);
-        n += 1;
+    for n in 0..end {
+        patch_one(words, table, base, n);
     }
 }
 
-// A nop where a pool follows code of odd length; where the pool starts.
-fn pad(words: &mut [u32], tab: &[u64; asm::TABLE], n: u32, k: u32) -> u32
+// A nop where a pool follows code of odd length; where the pool starts. That k has an end is asked here and in `pool`, and is no
+// invariant of the counts: `finish` promises of any state of the assembler (docs/CLAIMS.md, 2026-02).
+fn pad(words: &mut [u32], table: &[u64; asm::TABLE], n: u32, k: u32) -> u32
     requires { (n ≤ 1048576) × (k ≤ literal_room) }
-    ensures { (result ≡ base_of n (literals_from 0 k tab.now)) × (result ≤ 1048577) × (words.new ≡ write n (pad_of n (literals_from 0 k tab.now)) words.old) }
+    ensures { (result ≡ base_of n (literals_from 0 k table.now)) × (result ≤ 1048577) × (words.new ≡ write n (pad_of n (literals_from 0 k table.now)) words.old) }
 {
     if k == 0 {
         return n;
@@ -168,16 +164,14 @@ fn pad(words: &mut [u32], tab: &[u64; asm::TABLE], n: u32, k: u32) -> u32
 }
 
 // The literals, low word first.
-fn pool(words: &mut [u32], tab: &[u64; asm::TABLE], base: u32, k: u32)
+fn pool(words: &mut [u32], table: &[u64; asm::TABLE], base: u32, k: u32)
     requires { (base ≤ 1048577) × (k ≤ literal_room) }
-    ensures { words.new ≡ write base (halves (literals_from 0 k tab.now)) words.old }
+    ensures { words.new ≡ write base (halves (literals_from 0 k table.now)) words.old }
 {
-    let mut i: u32 = 0;
-    while i < k {
-        let v = tab[asm::LITERALS_AT + (i as usize)];
+    for i in 0..k {
+        let v = table[asm::LITERALS_AT + (i as usize)];
         asm::store(words, base + 2 * i, low(v));
         asm::store(words, base + 2 * i + 1, high(v));
-        i += 1;
     }
 }
 
@@ -185,26 +179,33 @@ fn pool(words: &mut [u32], tab: &[u64; asm::TABLE], base: u32, k: u32)
 pub fn zero(words: &mut [u32])
     ensures { words.new ≡ zeros words.old }
 {
-    let mut i = 0;
-    while i < words.len() {
-        words[i] = 0;
-        i += 1;
-    }
+    words.fill(0);
 }
 
 // The lent words are the block's behind the first `upto` patches, or behind all where there are fewer, with those beyond the block
 // untouched; or all 0 where they are too few.
-pub fn finish(words: &mut [u32], tab: &[u64; asm::TABLE], a: Asm, upto: u32) -> Finished
-    ensures { (result ≡ finished (state words.old tab.now a)) × (words.new ≡ finished_words upto (state words.old tab.now a)) }
+pub fn finish(asm: &mut Asm, upto: u32) -> Result<u32, Short>
+    ensures told { result ≡ finished (state asm.old) }
+    ensures wrote { Wrote asm.old (parts (finished_words upto (state asm.old)) asm.old.table.now asm.old.counts) asm.new }
 {
-    let k = asm::at_most(asm::LITERALS, a.literals);
-    let base = pad(words, tab, asm::at_most(1048576, a.at), k);
-    pool(words, tab, base, k);
+    let k = asm::at_most(asm::LITERALS, asm.counts.literals);
+    let base = pad(
+        asm.words,
+        asm.table,
+        asm::at_most(1048576, asm.counts.at),
+        k,
+    );
+    pool(asm.words, asm.table, base, k);
     let total = base + 2 * k;
-    if words.len() < (total as usize) {
-        zero(words);
-        return Finished::Short(total);
+    if asm.words.len() < (total as usize) {
+        zero(asm.words);
+        return Err(Short(total));
     }
-    patch_to(words, tab, base, asm::at_most(a.fixups, upto));
-    Finished::Words(total)
+    patch_to(
+        asm.words,
+        asm.table,
+        base,
+        asm::at_most(asm.counts.fixups, upto),
+    );
+    Ok(total)
 }

@@ -3,16 +3,9 @@ use Rattle.std.specs.Prelude.{List, [], ◌∷◌, ◌++◌, ℕ}
 use Rattle.arm.specs.declared.Instr.{Instr}
 use Rattle.arm.specs.declared.Mode.TheVariants.{Offset, Pre}
 use Rattle.arm.specs.declared.Pair.TheVariants.{Stp}
-use Rattle.block.specs.declared.Layout.{Layout}
-use Rattle.block.specs.declared.Block.{Block}
 use Rattle.code.specs.Items.{b, b_cond}
 use Rattle.code.specs.Tree.{Depth, under, inner, Code, code, lit, to, exit, block, ◌then◌}
 use Rattle.lowering.specs.Instrs.{CPU, CTX, RAM, XIP, KEEP, KEEP2, FLAGS, DONE, LIMIT, NE, mov, mov_x, movz, mov32, add_xLsl, cmp, ubfx, ldr, str, ldr_x, frame, br}
-use Rattle.lowering.specs.Given.{no_memory, given}
-
--- a block of which the table's address matters too
-abbrev pub tabled : Layout → ℕ → Block
-tabled lay t = given lay no_memory (record { h_read = 0; h_write = 0; table = t })
 
 -- a store, and out with the count of operations done
 abbrev pub leave : {n : Depth} → Instr → Code n

@@ -1,31 +1,48 @@
 -- What lowering a list of steps leaves: the words, the register cache, and the chain sites.
-use Rattle.std.specs.Prelude.{◌≡◌, List, [], ◌∷◌, ◌++◌, ℕ, take}
-use Rattle.block.specs.declared.Block.{Block}
+use Rattle.std.specs.Prelude.{◌≡◌, List, ℕ, map}
+use Rattle.arrayvec.specs.ArrayVec.{ArrayVec}
 use Rattle.code.specs.Tree.{nowhere}
+use Rattle.lowering.specs.declared.Site.{Site}
 use Rattle.lowering.specs.Steps.{Step}
 use Rattle.lowering.specs.Fragments.{steps_code}
 use Rattle.lowering.specs.Compile.{targets}
-use Rattle.asm.specs.State.{state}
+use Rattle.asm.specs.declared.Asm.{Asm}
+use Rattle.asm.specs.State.{state, Wrote}
+use Rattle.emission.specs.declared.Gen.{Gen}
+use Rattle.emission.specs.Gen.{given_of}
 use Rattle.emission.specs.Total.{after_t, starts_t}
 use Rattle.stepping.specs.Behind.{cache_behind}
-use Rattle.lower.specs.declared.Sites.{Sites}
-use Rattle.lower.specs.declared.Lowered.{Lowered}
+use Rattle.stepping.specs.Done.{Generated, steps_done}
+pub use Rattle.stepping.specs.Done.{kept}
 
 -- the sites' positions, and the guest addresses that they go on at
-abbrev pub ats_of : Sites → List ℕ
-ats_of s = take s.n s.at
+abbrev pub ats_of : ArrayVec Site → List ℕ
+ats_of s = map (λ x. x.at) s.items
 
-abbrev pub targets_of : Sites → List ℕ
-targets_of s = take s.n s.target
+abbrev pub targets_of : ArrayVec Site → List ℕ
+targets_of s = map (λ x. x.target) s.items
 
--- two are kept: no block has more (bounds, `Sited`)
-unfoldable pub kept : List ℕ → List ℕ → List ℕ
-kept xs [] = xs
-kept xs (y ∷ ys) = take 2 (xs ++ (y ∷ ys))
+-- what an assembler and a generator have so far
+unfoldable pub generated : Asm → Gen → Generated
+generated a g =
+    record {
+      code = state a;
+      words = a.words.ghost_name;
+      table = a.table.ghost_name;
+      given = given_of g;
+      cache = g.rc;
+      ats = ats_of g.sites;
+      targets = targets_of g.sites;
+    }
 
--- from the words and the table ws, t and q to ws₁, t₁ and r
-pub record Lowers (blk : Block) (ss : List Step) (ws t : List ℕ) (q : Lowered) (ws₁ t₁ : List ℕ) (r : Lowered) : Type 0 where
-  pub code : state ws₁ t₁ r.a ≡ after_t (steps_code blk q.rc ss) nowhere 0 (state ws t q.a)
+-- FROM the assembler a and the generator q TO b and r
+pub record Lowers (ss : List Step) (a : Asm) (q : Gen) (b : Asm) (r : Gen) : Type 0 where
+  pub done : generated b r ≡ steps_done ss (generated a q)
+
+-- the same by its parts (proofs/Laws.antt, `lowers-leaves`): the code of all steps, as the definition has it
+pub record Leaves (ss : List Step) (a : Asm) (q : Gen) (b : Asm) (r : Gen) : Type 0 where
+  pub wrote : Wrote a (after_t (steps_code (given_of q) q.rc ss) nowhere 0 (state a)) b
+  pub given : given_of r ≡ given_of q
   pub cache : r.rc ≡ cache_behind q.rc ss
-  pub ats : ats_of r.sites ≡ kept (ats_of q.sites) (starts_t (steps_code blk q.rc ss) nowhere 0 (state ws t q.a))
+  pub ats : ats_of r.sites ≡ kept (ats_of q.sites) (starts_t (steps_code (given_of q) q.rc ss) nowhere 0 (state a))
   pub targets : targets_of r.sites ≡ kept (targets_of q.sites) (targets ss)

@@ -1,6 +1,6 @@
--- The states behind the calls of each function, joined along the tree of its definition.
+-- The assemblers behind the calls of each function, joined along the tree of its definition.
 use mathlib.Core.Bool.{Bool, true, false, ◌&&◌}
-use mathlib.Core.List.{List, [], ◌∷◌}
+use mathlib.Core.List.{[], ◌∷◌}
 use mathlib.Core.Path.{◌≡◌, ap, ◌∙◌}
 use Prim.Native.Nat.{ℕ, ◌-◌}
 use Rattle.arm.specs.declared.Access.{Access}
@@ -9,181 +9,159 @@ use Rattle.arm.specs.declared.Size.TheVariants.{W}
 use Rattle.arm.specs.declared.Test.TheVariants.{Nonzero}
 use Rattle.block.specs.declared.Width.{Width}
 use Rattle.block.specs.declared.Width.TheVariants.{Byte, Half, Word}
-use Rattle.block.specs.declared.Layout.{Layout}
+use Rattle.block.specs.declared.Block.{Block}
 use Rattle.block.specs.declared.Memory.{Memory}
-use Rattle.block.specs.declared.Addresses.{Addresses}
 use Rattle.block.specs.Block.{bytes}
-use Rattle.code.specs.Items.{b, b_cond, cb, tb, ldr, label, literal, go, bind}
-use Rattle.code.specs.Tree.{Depth, under, Var, inner, outer, Code, code, block, inside, nowhere}
+use Rattle.code.specs.Items.{b, b_cond, cb, tb, ldr, label, literal, go, new, bind}
+use Rattle.code.specs.Tree.{Var, inner, outer, code, inside, nowhere}
 use Rattle.code.specs.Calls.{calls, next_l}
 use Rattle.lowering.specs.declared.RegCache.{RegCache}
 use Rattle.lowering.specs.Cache.{flush, reload}
 use Rattle.lowering.specs.Instrs.{CTX, RAM, XIP, FLAGS, DONE, HI, mov, mov_x, mov32, add_i, sub, cmp, lsr_i, indexed, blr}
 use Rattle.lowering.specs.Fragments.{even, loads, stores, extended, try_region, align_test, map_test, call, load, store}
-use Rattle.lowering.specs.Given.{given, placed}
 use Rattle.asm.specs.declared.Asm.{Asm}
-use Rattle.asm.specs.declared.Made.{Made}
-use Rattle.asm.specs.State.{State, state, made, put}
-use Rattle.asm.proofs.Laws.{new-put}
-use Rattle.emission.specs.Total.{emitted, after_t}
-use Rattle.emission.proofs.After.{none, more, same, code-after, lit-after, to_after, then-after, block-after}
+use Rattle.asm.specs.declared.Label.{Label}
+use Rattle.asm.specs.State.{label_of}
+use Rattle.emission.specs.Total.{after_t}
+use Rattle.emission.specs.Emits.{Emits, Puts, Codes}
+use Rattle.emission.proofs.Writes.{writes-nothing, writes-more, writes-same, writes-code, writes-lit, writes-to, writes-then, writes-block}
 use Rattle.memops.specs.Pieces.{by_read, ram_store, by_write}
 
--- a block whose label `new_label` answered
-block_made : {n : Depth} (e : Var n → ℕ) (ws t : List ℕ) (a : Asm) (m : Made) (c : Code (under n)) (s s₁ : State) → m ≡ made a
-    → s ≡ after_t c (inside m.l.0 e) 0 (state ws t m.a) → s₁ ≡ put (bind m.l.0) s → s₁ ≡ after_t (block c) e 0 (state ws t a)
-unfolding made
-block_made e ws t a m c s s₁ q p r =
-    block-after e 0 c (state ws t a) (state ws t m.a) s s₁ (ap (λ (y : Made). state ws t y.a) q ∙ new-put ws t a)
-    (p ∙ ap (λ (y : Made). after_t c (inside y.l.0 e) 0 (state ws t m.a)) q) (r ∙ ap (λ (y : Made). put (bind y.l.0) s) q)
-
 -- ---- a region
-pub region : (reg base len k n : ℕ) (w : Width) (signed : Bool) (miss done : ℕ) (f : Access) (s s₁ s₂ s₃ s₄ s₅ s₆ s₇ s₈ : State)
+pub region : (reg base len k n : ℕ) (w : Width) (signed : Bool) (miss done : ℕ) (f : Access) {a a₁ a₂ a₃ a₄ a₅ a₆ a₇ a₈ : Asm}
     → k ≡ bytes w → n ≡ len - k → f ≡ loads w signed
-    → s₁ ≡ emitted (mov32 2 base) s → s₂ ≡ emitted (sub 3 0 2 ∷ []) s₁ → s₃ ≡ emitted (even w) s₂ → s₄ ≡ emitted (mov32 2 n) s₃
-    → s₅ ≡ emitted (cmp 3 2 ∷ []) s₄ → s₆ ≡ put (go (b_cond HI) (label miss)) s₅ → s₇ ≡ emitted (indexed f 0 reg 3 ∷ []) s₆
-    → s₈ ≡ put (go b (label done)) s₇
-    → s₈ ≡ after_t (try_region reg base len w signed inner (outer inner)) (inside miss (inside done nowhere)) 0 s
+    → Emits a (mov32 2 base) a₁ → Emits a₁ (sub 3 0 2 ∷ []) a₂ → Emits a₂ (even w) a₃ → Emits a₃ (mov32 2 n) a₄ → Emits a₄ (cmp 3 2 ∷ []) a₅
+    → Puts a₅ (go (b_cond HI) (label miss)) a₆ → Emits a₆ (indexed f 0 reg 3 ∷ []) a₇ → Puts a₇ (go b (label done)) a₈
+    → Codes (inside miss (inside done nowhere)) a (try_region reg base len w signed inner (outer inner)) a₈
 unfolding try_region
-region reg base len k n w signed miss done f s s₁ s₂ s₃ s₄ s₅ s₆ s₇ s₈ ks ns fs p₁ p₂ p₃ p₄ p₅ p₆ p₇ p₈ =
+region reg base len k n w signed miss done f ks ns fs p₁ p₂ p₃ p₄ p₅ p₆ p₇ p₈ =
     let e : Var _ → ℕ = inside miss (inside done nowhere) in
-    then-after e 0 _ _ s s₅ s₈
-    (code-after e 0 _ s s₅
-    (more _ _ s s₁ s₅ p₁ (more (sub 3 0 2 ∷ []) _ s₁ s₂ s₅ p₂ (more _ _ s₂ s₃ s₅ p₃ (more _ _ s₃ s₄ s₅ (same _ _ s₃ s₄ (ap (mov32 2) (ns ∙ ap (λ j. len - j) ks)) p₄) p₅)))))
-    (then-after e 0 _ _ s₅ s₆ s₈ (to_after e 0 (b_cond HI) inner s₅ s₆ p₆)
-    (then-after e 0 _ _ s₆ s₇ s₈ (code-after e 0 _ s₆ s₇ (same _ _ s₆ s₇ (ap (λ g. indexed g 0 reg 3 ∷ []) fs) p₇)) (to_after e 0 b (outer inner) s₇ s₈ p₈)))
+    let room : mov32 2 n ≡ mov32 2 (len - bytes w) = ap (mov32 2) (ns ∙ ap (λ j. len - j) ks) in
+    writes-then e 0 _ _
+    (writes-code e 0 _
+    (writes-more _ _ p₁ (writes-more (sub 3 0 2 ∷ []) _ p₂ (writes-more _ _ p₃ (writes-more _ _ (writes-same room p₄) p₅)))))
+    (writes-then e 0 _ _ (writes-to e 0 (b_cond HI) inner p₆)
+    (writes-then e 0 _ _ (writes-code e 0 _ (writes-same (ap (λ g. indexed g 0 reg 3 ∷ []) fs) p₇)) (writes-to e 0 b (outer inner) p₈)))
 
 -- the same with a block between
-region-under : (reg base len : ℕ) (w : Width) (signed : Bool) (miss mid done : ℕ) (s s₁ : State)
-    → s₁ ≡ after_t (try_region reg base len w signed inner (outer inner)) (inside miss (inside done nowhere)) 0 s
-    → s₁ ≡ after_t (try_region reg base len w signed inner (outer (outer inner))) (inside miss (inside mid (inside done nowhere))) 0 s
+region-under : (reg base len : ℕ) (w : Width) (signed : Bool) (miss mid done : ℕ) {a a₁ : Asm}
+    → Codes (inside miss (inside done nowhere)) a (try_region reg base len w signed inner (outer inner)) a₁
+    → Codes (inside miss (inside mid (inside done nowhere))) a (try_region reg base len w signed inner (outer (outer inner))) a₁
 unfolding after_t calls next_l try_region
-region-under reg base len w signed miss mid done s s₁ p = p
+region-under reg base len w signed miss mid done p = p
 
--- ---- a helper call
-pub helper : (lay : Layout) (rc : RegCache) (f : ℕ) (s s₁ s₂ s₃ s₄ : State) → s₁ ≡ emitted (flush lay rc) s → s₂ ≡ put (go (ldr 9) (literal f)) s₁
-    → s₃ ≡ emitted (blr 9 ∷ []) s₂ → s₄ ≡ emitted (reload lay rc) s₃ → s₄ ≡ after_t (call (placed lay) rc f) nowhere 0 s
-unfolding call
-helper lay rc f s s₁ s₂ s₃ s₄ p₁ p₂ p₃ p₄ =
-    then-after nowhere 0 _ _ s s₁ s₄ (code-after nowhere 0 _ s s₁ p₁)
-    (then-after nowhere 0 _ _ s₁ s₂ s₄ (lit-after nowhere 0 9 f s₁ s₂ p₂) (code-after nowhere 0 _ s₂ s₄ (more (blr 9 ∷ []) _ s₂ s₃ s₄ p₃ p₄)))
+module _ (blk : Block) (rc : RegCache) where
+  -- ---- a helper call
+  pub helper : (f : ℕ) {a a₁ a₂ a₃ a₄ : Asm} → Emits a (flush blk.layout rc) a₁ → Puts a₁ (go (ldr 9) (literal f)) a₂ → Emits a₂ (blr 9 ∷ []) a₃
+      → Emits a₃ (reload blk.layout rc) a₄ → Codes nowhere a (call blk rc f) a₄
+  unfolding call
+  helper f p₁ p₂ p₃ p₄ =
+      writes-then nowhere 0 _ _ (writes-code nowhere 0 _ p₁)
+      (writes-then nowhere 0 _ _ (writes-lit nowhere 0 9 f p₂) (writes-code nowhere 0 _ (writes-more (blr 9 ∷ []) _ p₃ p₄)))
 
-pub by_read_lem : (lay : Layout) (rc : RegCache) (f k : ℕ) (w : Width) (signed : Bool) (i : ℕ) (s s₁ s₂ s₃ s₄ s₅ s₆ : State) → k ≡ bytes w
-    → s₁ ≡ emitted (mov 1 0 ∷ []) s → s₂ ≡ emitted (mov_x 0 CTX ∷ []) s₁ → s₃ ≡ emitted (add_i 2 DONE i ∷ []) s₂ → s₄ ≡ emitted (mov32 3 k) s₃
-    → s₅ ≡ after_t (call (placed lay) rc f) nowhere 0 s₄ → s₆ ≡ emitted (extended w signed) s₅ → s₆ ≡ after_t (by_read (placed lay) rc f w signed i) nowhere 0 s
-by_read_lem lay rc f k w signed i s s₁ s₂ s₃ s₄ s₅ s₆ ks p₁ p₂ p₃ p₄ p₅ p₆ =
-    then-after nowhere 0 _ _ s s₄ s₆
-    (code-after nowhere 0 _ s s₄
-    (more (mov 1 0 ∷ []) _ s s₁ s₄ p₁ (more (mov_x 0 CTX ∷ []) _ s₁ s₂ s₄ p₂ (more (add_i 2 DONE i ∷ []) _ s₂ s₃ s₄ p₃ (same _ _ s₃ s₄ (ap (mov32 3) ks) p₄)))))
-    (then-after nowhere 0 _ _ s₄ s₅ s₆ p₅ (code-after nowhere 0 _ s₅ s₆ p₆))
+  pub read-helper : (f k : ℕ) (w : Width) (signed : Bool) (i : ℕ) {a a₁ a₂ a₃ a₄ a₅ a₆ : Asm} → k ≡ bytes w
+      → Emits a (mov 1 0 ∷ []) a₁ → Emits a₁ (mov_x 0 CTX ∷ []) a₂ → Emits a₂ (add_i 2 DONE i ∷ []) a₃ → Emits a₃ (mov32 3 k) a₄
+      → Codes nowhere a₄ (call blk rc f) a₅ → Emits a₅ (extended w signed) a₆ → Codes nowhere a (by_read blk rc f w signed i) a₆
+  read-helper f k w signed i ks p₁ p₂ p₃ p₄ p₅ p₆ =
+      writes-then nowhere 0 _ _
+      (writes-code nowhere 0 _
+      (writes-more (mov 1 0 ∷ []) _ p₁
+      (writes-more (mov_x 0 CTX ∷ []) _ p₂ (writes-more (add_i 2 DONE i ∷ []) _ p₃ (writes-same (ap (mov32 3) ks) p₄)))))
+      (writes-then nowhere 0 _ _ p₅ (writes-code nowhere 0 _ p₆))
 
-pub by-write : (lay : Layout) (rc : RegCache) (f k : ℕ) (w : Width) (i : ℕ) (s s₁ s₂ s₃ s₄ s₅ s₆ : State) → k ≡ bytes w
-    → s₁ ≡ emitted (mov 2 1 ∷ []) s → s₂ ≡ emitted (mov 1 0 ∷ []) s₁ → s₃ ≡ emitted (mov_x 0 CTX ∷ []) s₂ → s₄ ≡ emitted (add_i 3 DONE i ∷ []) s₃
-    → s₅ ≡ emitted (mov32 4 k) s₄ → s₆ ≡ after_t (call (placed lay) rc f) nowhere 0 s₅ → s₆ ≡ after_t (by_write (placed lay) rc f w i) nowhere 0 s
-by-write lay rc f k w i s s₁ s₂ s₃ s₄ s₅ s₆ ks p₁ p₂ p₃ p₄ p₅ p₆ =
-    then-after nowhere 0 _ _ s s₅ s₆
-    (code-after nowhere 0 _ s s₅
-    (more (mov 2 1 ∷ []) _ s s₁ s₅ p₁ (more (mov 1 0 ∷ []) _ s₁ s₂ s₅ p₂ (more (mov_x 0 CTX ∷ []) _ s₂ s₃ s₅ p₃ (more (add_i 3 DONE i ∷ []) _ s₃ s₄ s₅ p₄ (same _ _ s₄ s₅ (ap (mov32 4) ks) p₅))))))
-    p₆
+  pub write-helper : (f k : ℕ) (w : Width) (i : ℕ) {a a₁ a₂ a₃ a₄ a₅ a₆ : Asm} → k ≡ bytes w
+      → Emits a (mov 2 1 ∷ []) a₁ → Emits a₁ (mov 1 0 ∷ []) a₂ → Emits a₂ (mov_x 0 CTX ∷ []) a₃ → Emits a₃ (add_i 3 DONE i ∷ []) a₄
+      → Emits a₄ (mov32 4 k) a₅ → Codes nowhere a₅ (call blk rc f) a₆ → Codes nowhere a (by_write blk rc f w i) a₆
+  write-helper f k w i ks p₁ p₂ p₃ p₄ p₅ p₆ =
+      writes-then nowhere 0 _ _
+      (writes-code nowhere 0 _
+      (writes-more (mov 2 1 ∷ []) _ p₁
+      (writes-more (mov 1 0 ∷ []) _ p₂
+      (writes-more (mov_x 0 CTX ∷ []) _ p₃ (writes-more (add_i 3 DONE i ∷ []) _ p₄ (writes-same (ap (mov32 4) ks) p₅))))))
+      p₆
 
--- inside a block, of a block with memory
-read_under : (lay : Layout) (mem : Memory) (addr : Addresses) (rc : RegCache) (f : ℕ) (w : Width) (signed : Bool) (i l : ℕ) (s s₁ : State)
-    → s₁ ≡ after_t (by_read (placed lay) rc f w signed i) nowhere 0 s → s₁ ≡ after_t (by_read (given lay mem addr) rc f w signed i) (inside l nowhere) 0 s
-unfolding after_t calls next_l call
-read_under lay mem addr rc f w signed i l s s₁ p = p
+  -- inside a block
+  read-under : (f : ℕ) (w : Width) (signed : Bool) (i l : ℕ) {a a₁ : Asm} → Codes nowhere a (by_read blk rc f w signed i) a₁
+      → Codes (inside l nowhere) a (by_read blk rc f w signed i) a₁
+  unfolding after_t calls next_l call
+  read-under f w signed i l p = p
 
-write_under : (lay : Layout) (mem : Memory) (addr : Addresses) (rc : RegCache) (f : ℕ) (w : Width) (i l : ℕ) (s s₁ : State)
-    → s₁ ≡ after_t (by_write (placed lay) rc f w i) nowhere 0 s → s₁ ≡ after_t (by_write (given lay mem addr) rc f w i) (inside l nowhere) 0 s
-unfolding after_t calls next_l call
-write_under lay mem addr rc f w i l s s₁ p = p
+  write-under : (f : ℕ) (w : Width) (i l : ℕ) {a a₁ : Asm} → Codes nowhere a (by_write blk rc f w i) a₁ → Codes (inside l nowhere) a (by_write blk rc f w i) a₁
+  unfolding after_t calls next_l call
+  write-under f w i l p = p
 
 -- ---- the tests of a store
-pub align_arm : (u : Bool) (w p : Width) (l : ℕ) (s s₁ : State) → w ≡ p → s₁ ≡ after_t (align_test u p) (inside l nowhere) 0 s
-    → s₁ ≡ after_t (align_test u w) (inside l nowhere) 0 s
-align_arm u w p l s s₁ q h = rw q h
+pub no_test : (l : ℕ) {a : Asm} → Codes (inside l nowhere) a (code []) a
+no_test l = writes-code (inside l nowhere) 0 [] writes-nothing
 
-pub no_test : (l : ℕ) (s : State) → s ≡ after_t (code []) (inside l nowhere) 0 s
-no_test l s = code-after (inside l nowhere) 0 [] s s (none s)
-
-pub no_words : (u : Bool) (l : ℕ) (s : State) → u ≡ false → s ≡ after_t (align_test u Word) (inside l nowhere) 0 s
+pub with_words : (l : ℕ) {a a₁ a₂ : Asm} → Puts a (go (tb Nonzero 0 0) (label l)) a₁ → Puts a₁ (go (tb Nonzero 1 0) (label l)) a₂
+    → Codes (inside l nowhere) a (align_test true Word) a₂
 unfolding align_test
-no_words u l s q = rw q (no_test l s)
-
-pub with_words : (u : Bool) (l : ℕ) (s s₁ s₂ : State) → u ≡ true → s₁ ≡ put (go (tb Nonzero 0 0) (label l)) s
-    → s₂ ≡ put (go (tb Nonzero 1 0) (label l)) s₁ → s₂ ≡ after_t (align_test u Word) (inside l nowhere) 0 s
-unfolding align_test
-with_words u l s s₁ s₂ q p₁ p₂ =
+with_words l p₁ p₂ =
     let e : Var _ → ℕ = inside l nowhere in
-    rw q (then-after e 0 _ _ s s₁ s₂ (to_after e 0 (tb Nonzero 0 0) inner s s₁ p₁) (to_after e 0 (tb Nonzero 1 0) inner s₁ s₂ p₂))
+    writes-then e 0 _ _ (writes-to e 0 (tb Nonzero 0 0) inner p₁) (writes-to e 0 (tb Nonzero 1 0) inner p₂)
 
-pub no_map : (m : Bool) (l : ℕ) (s : State) → m ≡ false → s ≡ after_t (map_test m) (inside l nowhere) 0 s
+pub with_map : (l : ℕ) {a a₁ a₂ a₃ : Asm} → Emits a (lsr_i 2 3 2 ∷ []) a₁ → Emits a₁ (indexed Ldrb 2 FLAGS 2 ∷ []) a₂
+    → Puts a₂ (go (cb W Nonzero 2) (label l)) a₃ → Codes (inside l nowhere) a (map_test true) a₃
 unfolding map_test
-no_map m l s q = rw q (no_test l s)
-
-pub with_map : (m : Bool) (l : ℕ) (s s₁ s₂ s₃ : State) → m ≡ true → s₁ ≡ emitted (lsr_i 2 3 2 ∷ []) s → s₂ ≡ emitted (indexed Ldrb 2 FLAGS 2 ∷ []) s₁
-    → s₃ ≡ put (go (cb W Nonzero 2) (label l)) s₂ → s₃ ≡ after_t (map_test m) (inside l nowhere) 0 s
-unfolding map_test
-with_map m l s s₁ s₂ s₃ q p₁ p₂ p₃ =
+with_map l p₁ p₂ p₃ =
     let e : Var _ → ℕ = inside l nowhere in
-    rw q (then-after e 0 _ _ s s₂ s₃ (code-after e 0 _ s s₂ (more (lsr_i 2 3 2 ∷ []) _ s s₁ s₂ p₁ p₂)) (to_after e 0 (cb W Nonzero 2) inner s₂ s₃ p₃))
+    writes-then e 0 _ _ (writes-code e 0 _ (writes-more (lsr_i 2 3 2 ∷ []) _ p₁ p₂)) (writes-to e 0 (cb W Nonzero 2) inner p₃)
 
 -- the same with a block around
-align_under : (u : Bool) (w : Width) (slow done : ℕ) (s s₁ : State) → s₁ ≡ after_t (align_test u w) (inside slow nowhere) 0 s
-    → s₁ ≡ after_t (align_test u w) (inside slow (inside done nowhere)) 0 s
+align-under : (u : Bool) (w : Width) (slow done : ℕ) {a a₁ : Asm} → Codes (inside slow nowhere) a (align_test u w) a₁
+    → Codes (inside slow (inside done nowhere)) a (align_test u w) a₁
 unfolding after_t calls next_l align_test
-align_under u Byte slow done s s₁ p = p
-align_under u Half slow done s s₁ p = p
-align_under false Word slow done s s₁ p = p
-align_under true Word slow done s s₁ p = p
+align-under u Byte slow done p = p
+align-under u Half slow done p = p
+align-under false Word slow done p = p
+align-under true Word slow done p = p
 
-map-under : (m : Bool) (slow done : ℕ) (s s₁ : State) → s₁ ≡ after_t (map_test m) (inside slow nowhere) 0 s → s₁ ≡ after_t (map_test m) (inside slow (inside done nowhere)) 0 s
+map-under : (m : Bool) (slow done : ℕ) {a a₁ : Asm} → Codes (inside slow nowhere) a (map_test m) a₁ → Codes (inside slow (inside done nowhere)) a (map_test m) a₁
 unfolding after_t calls next_l map_test
-map-under false slow done s s₁ p = p
-map-under true slow done s s₁ p = p
+map-under false slow done p = p
+map-under true slow done p = p
 
-pub ram-store : (mem : Memory) (w : Width) (alone : Bool) (slow done k n : ℕ) (f : Access) (s s₁ s₂ s₃ s₄ s₅ s₆ s₇ s₈ s₉ : State)
+pub ram-store : (mem : Memory) (w : Width) (alone : Bool) (slow done k n : ℕ) (f : Access) {a a₁ a₂ a₃ a₄ a₅ a₆ a₇ a₈ a₉ : Asm}
     → k ≡ bytes w → n ≡ mem.ram_len - k → f ≡ stores w
-    → s₁ ≡ after_t (align_test (alone && mem.map) w) (inside slow nowhere) 0 s → s₂ ≡ emitted (mov32 2 mem.ram_base) s₁
-    → s₃ ≡ emitted (sub 3 0 2 ∷ []) s₂ → s₄ ≡ emitted (mov32 2 n) s₃ → s₅ ≡ emitted (cmp 3 2 ∷ []) s₄
-    → s₆ ≡ put (go (b_cond HI) (label slow)) s₅ → s₇ ≡ after_t (map_test mem.map) (inside slow nowhere) 0 s₆
-    → s₈ ≡ emitted (indexed f 1 RAM 3 ∷ []) s₇ → s₉ ≡ put (go b (label done)) s₈
-    → s₉ ≡ after_t (ram_store mem w alone) (inside slow (inside done nowhere)) 0 s
-ram-store mem w alone slow done k n f s s₁ s₂ s₃ s₄ s₅ s₆ s₇ s₈ s₉ ks ns fs p₁ p₂ p₃ p₄ p₅ p₆ p₇ p₈ p₉ =
+    → Codes (inside slow nowhere) a (align_test (alone && mem.map) w) a₁ → Emits a₁ (mov32 2 mem.ram_base) a₂ → Emits a₂ (sub 3 0 2 ∷ []) a₃
+    → Emits a₃ (mov32 2 n) a₄ → Emits a₄ (cmp 3 2 ∷ []) a₅ → Puts a₅ (go (b_cond HI) (label slow)) a₆
+    → Codes (inside slow nowhere) a₆ (map_test mem.map) a₇ → Emits a₇ (indexed f 1 RAM 3 ∷ []) a₈ → Puts a₈ (go b (label done)) a₉
+    → Codes (inside slow (inside done nowhere)) a (ram_store mem w alone) a₉
+ram-store mem w alone slow done k n f ks ns fs p₁ p₂ p₃ p₄ p₅ p₆ p₇ p₈ p₉ =
     let e : Var _ → ℕ = inside slow (inside done nowhere) in
-    then-after e 0 _ _ s s₁ s₉ (align_under (alone && mem.map) w slow done s s₁ p₁)
-    (then-after e 0 _ _ s₁ s₅ s₉
-    (code-after e 0 _ s₁ s₅
-    (more _ _ s₁ s₂ s₅ p₂ (more (sub 3 0 2 ∷ []) _ s₂ s₃ s₅ p₃ (more _ _ s₃ s₄ s₅ (same _ _ s₃ s₄ (ap (mov32 2) (ns ∙ ap (λ j. mem.ram_len - j) ks)) p₄) p₅))))
-    (then-after e 0 _ _ s₅ s₆ s₉ (to_after e 0 (b_cond HI) inner s₅ s₆ p₆)
-    (then-after e 0 _ _ s₆ s₇ s₉ (map-under mem.map slow done s₆ s₇ p₇)
-    (then-after e 0 _ _ s₇ s₈ s₉ (code-after e 0 _ s₇ s₈ (same _ _ s₇ s₈ (ap (λ g. indexed g 1 RAM 3 ∷ []) fs) p₈)) (to_after e 0 b (outer inner) s₈ s₉ p₉)))))
+    let room : mov32 2 n ≡ mov32 2 (mem.ram_len - bytes w) = ap (mov32 2) (ns ∙ ap (λ j. mem.ram_len - j) ks) in
+    writes-then e 0 _ _ (align-under (alone && mem.map) w slow done p₁)
+    (writes-then e 0 _ _
+    (writes-code e 0 _ (writes-more _ _ p₂ (writes-more (sub 3 0 2 ∷ []) _ p₃ (writes-more _ _ (writes-same room p₄) p₅))))
+    (writes-then e 0 _ _ (writes-to e 0 (b_cond HI) inner p₆)
+    (writes-then e 0 _ _ (map-under mem.map slow done p₇)
+    (writes-then e 0 _ _ (writes-code e 0 _ (writes-same (ap (λ g. indexed g 1 RAM 3 ∷ []) fs) p₈)) (writes-to e 0 b (outer inner) p₉)))))
 
 -- ---- the whole: labels first, bound at the end of each block
-module _ (lay : Layout) (mem : Memory) (addr : Addresses) (rc : RegCache) (ws t : List ℕ) (a : Asm) (done slow : Made) (q₁ : done ≡ made a) (q₂ : slow ≡ made done.a) where
-  pub load-whole : (w : Width) (signed : Bool) (i : ℕ) (xip : Made) (s₁ s₂ s₃ s₄ s₅ s₆ : State) → xip ≡ made slow.a
-      → s₁ ≡ after_t (try_region RAM mem.ram_base mem.ram_len w signed inner (outer inner)) (inside xip.l.0 (inside done.l.0 nowhere)) 0 (state ws t xip.a)
-      → s₂ ≡ put (bind xip.l.0) s₁
-      → s₃ ≡ after_t (try_region XIP mem.xip_base mem.xip_len w signed inner (outer inner)) (inside slow.l.0 (inside done.l.0 nowhere)) 0 s₂
-      → s₄ ≡ put (bind slow.l.0) s₃ → s₅ ≡ after_t (by_read (placed lay) rc addr.h_read w signed i) nowhere 0 s₄ → s₆ ≡ put (bind done.l.0) s₅
-      → s₆ ≡ after_t (load (given lay mem addr) rc w signed i) nowhere 0 (state ws t a)
+module _ (blk : Block) (rc : RegCache) {a a₁ a₂ : Asm} (done slow : Label) (m₁ : done ≡ label_of a.counts.labels) (p₁ : Puts a new a₁)
+    (m₂ : slow ≡ label_of a₁.counts.labels) (p₂ : Puts a₁ new a₂) where
+  pub load-whole : (w : Width) (signed : Bool) (i : ℕ) (xip : Label) {a₃ a₄ a₅ a₆ a₇ a₈ a₉ : Asm} → xip ≡ label_of a₂.counts.labels → Puts a₂ new a₃
+      → Codes (inside xip.0 (inside done.0 nowhere)) a₃ (try_region RAM blk.memory.ram_base blk.memory.ram_len w signed inner (outer inner)) a₄
+      → Puts a₄ (bind xip.0) a₅
+      → Codes (inside slow.0 (inside done.0 nowhere)) a₅ (try_region XIP blk.memory.xip_base blk.memory.xip_len w signed inner (outer inner)) a₆
+      → Puts a₆ (bind slow.0) a₇ → Codes nowhere a₇ (by_read blk rc blk.addresses.h_read w signed i) a₈ → Puts a₈ (bind done.0) a₉
+      → Codes nowhere a (load blk rc w signed i) a₉
   unfolding load
-  load-whole w signed i xip s₁ s₂ s₃ s₄ s₅ s₆ q₃ p₁ p₂ p₃ p₄ p₅ p₆ =
-      let e : Var _ → ℕ = inside done.l.0 nowhere in
-      let e₂ : Var _ → ℕ = inside slow.l.0 e in
-      block_made nowhere ws t a done _ s₅ s₆ q₁
-      (then-after e 0 _ _ (state ws t done.a) s₄ s₅
-      (block_made e ws t done.a slow _ s₃ s₄ q₂
-      (then-after e₂ 0 _ _ (state ws t slow.a) s₂ s₃
-      (block_made e₂ ws t slow.a xip _ s₁ s₂ q₃ (region-under RAM _ _ w signed xip.l.0 slow.l.0 done.l.0 (state ws t xip.a) s₁ p₁) p₂) p₃) p₄)
-      (read_under lay mem addr rc addr.h_read w signed i done.l.0 s₄ s₅ p₅)) p₆
+  load-whole w signed i xip m₃ p₃ p₄ p₅ p₆ p₇ p₈ p₉ =
+      let e : Var _ → ℕ = inside done.0 nowhere in
+      let e₂ : Var _ → ℕ = inside slow.0 e in
+      writes-block nowhere 0 m₁ p₁ _
+      (writes-then e 0 _ _
+      (writes-block e 0 m₂ p₂ _
+      (writes-then e₂ 0 _ _ (writes-block e₂ 0 m₃ p₃ _ (region-under RAM _ _ w signed xip.0 slow.0 done.0 p₄) p₅) p₆) p₇)
+      (read-under blk rc blk.addresses.h_read w signed i done.0 p₈)) p₉
 
-  pub store-whole : (w : Width) (alone : Bool) (i : ℕ) (s₁ s₂ s₃ s₄ : State)
-      → s₁ ≡ after_t (ram_store mem w alone) (inside slow.l.0 (inside done.l.0 nowhere)) 0 (state ws t slow.a)
-      → s₂ ≡ put (bind slow.l.0) s₁ → s₃ ≡ after_t (by_write (placed lay) rc addr.h_write w i) nowhere 0 s₂ → s₄ ≡ put (bind done.l.0) s₃
-      → s₄ ≡ after_t (store (given lay mem addr) rc w alone i) nowhere 0 (state ws t a)
+  pub store-whole : (w : Width) (alone : Bool) (i : ℕ) {a₃ a₄ a₅ a₆ : Asm} → Codes (inside slow.0 (inside done.0 nowhere)) a₂ (ram_store blk.memory w alone) a₃
+      → Puts a₃ (bind slow.0) a₄ → Codes nowhere a₄ (by_write blk rc blk.addresses.h_write w i) a₅ → Puts a₅ (bind done.0) a₆
+      → Codes nowhere a (store blk rc w alone i) a₆
   unfolding store
-  store-whole w alone i s₁ s₂ s₃ s₄ p₁ p₂ p₃ p₄ =
-      let e : Var _ → ℕ = inside done.l.0 nowhere in
-      block_made nowhere ws t a done _ s₃ s₄ q₁
-      (then-after e 0 _ _ (state ws t done.a) s₂ s₃ (block_made e ws t done.a slow _ s₁ s₂ q₂ p₁ p₂)
-      (write_under lay mem addr rc addr.h_write w i done.l.0 s₂ s₃ p₃)) p₄
+  store-whole w alone i p₃ p₄ p₅ p₆ =
+      let e : Var _ → ℕ = inside done.0 nowhere in
+      writes-block nowhere 0 m₁ p₁ _
+      (writes-then e 0 _ _ (writes-block e 0 m₂ p₂ _ p₃ p₄) (write-under blk rc blk.addresses.h_write w i done.0 p₅)) p₆

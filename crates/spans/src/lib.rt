@@ -1,7 +1,7 @@
 // The numbers of a group of registers: the bytes of a BlockMove and where they start, and which registers PushRets and PopPc move.
 #![tactic(auto)]
 
-ghost use Rattle.std.specs.Prelude.{◌≡◌, ◌-◌, if◌then◌else◌, nat_lt};
+ghost use Rattle.std.specs.Prelude.{◌≡◌, if◌then◌else◌, nat_lt};
 ghost use Rattle.block.specs.Block.{span as span_of};
 ghost use Rattle.lowering.specs.Steps.{move_offset};
 
@@ -9,17 +9,14 @@ ghost use Rattle.lowering.specs.Steps.{move_offset};
 pub fn span(mask: u16) -> u32
     ensures { result ≡ span_of mask }
 {
-    4 * u32::count_ones(mask as u32)
+    4 * mask.count_ones()
 }
 
 // Where the words start, from the base on.
 pub fn start(down: bool, bytes: u32) -> u32
     ensures { result ≡ move_offset down bytes }
 {
-    if down {
-        return std::num::wrapping_sub_u32(0, bytes);
-    }
-    0
+    if down { bytes.wrapping_neg() } else { 0 }
 }
 
 // Where the base is then, from the start on.
@@ -33,12 +30,12 @@ pub fn ahead(down: bool, bytes: u32) -> u32
 pub fn bot(n: u8) -> u8
     ensures { result ≡ (if nat_lt n 4 then n else 4) }
 {
-    if n < 4 { n } else { 4 }
+    n.min(4)
 }
 
-// How many they are: up to 3 or n.
-pub fn count_of(n: u8) -> u8
-    ensures { result ≡ (if nat_lt n 4 then 4 - n else n - 3) }
+// The highest of them: 3 or n.
+pub fn top(n: u8) -> u8
+    ensures { result ≡ (if nat_lt n 4 then 3 else n) }
 {
-    if n < 4 { 4 - n } else { n - 3 }
+    n.max(3)
 }

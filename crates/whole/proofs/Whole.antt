@@ -14,7 +14,7 @@ use Rattle.code.proofs.Tree.{whole-size, whole_length}
 use Rattle.code.proofs.Walk.{walked_all}
 use Rattle.lowering.specs.Fragments.{closing}
 use Rattle.lowering.specs.Compile.{block_code, block_lines, block_words, starts}
-use Rattle.asm.specs.State.{fixup_room, table_room, State, state, begin, put, made, run}
+use Rattle.asm.specs.State.{fixup_room, table_room, State, parts, begin, put, made, run}
 use Rattle.asm.proofs.Laws.{whole_run}
 use Rattle.emission.specs.Total.{emitted, after_t, starts_t}
 use Rattle.emission.proofs.Carried.{fine-run}
@@ -46,12 +46,12 @@ module _ (blk : Block) (ck : Checked blk) where
   unfolding block_words block_lines
   whole-walk = walked_all (block_lines blk) fixup_room (omega (arith, patches-jumps (block_code blk) closing, held.jumps))
 
-  module _ (lent tab : List ℕ) (s₁ : State) (p : s₁ ≡ put new (state lent tab begin)) where
+  module _ (lent tab : List ℕ) (s₁ : State) (p : s₁ ≡ put new (parts lent tab begin)) where
     module _ (full : length tab ≡ table_room) (s₂ s₃ s₄ : State) (q : s₂ ≡ after_t (block_code blk) nowhere 0 s₁) (r : s₃ ≡ put (bind 0) s₂) (t : s₄ ≡ emitted closing s₃) where
-      items-run : s₄ ≡ run (whole_items (block_code blk) closing) (state lent tab begin)
+      items-run : s₄ ≡ run (whole_items (block_code blk) closing) (parts lent tab begin)
       unfolding Fine calls emitted after_t
       items-run =
-          whole_run (block_code blk) closing (state lent tab begin) s₁ s₂ s₃ s₄ refl (omega (arith, (tables blk ck).labels)) p
+          whole_run (block_code blk) closing (parts lent tab begin) s₁ s₂ s₃ s₄ refl (omega (arith, (tables blk ck).labels)) p
           (q ∙ fine-run (block_code blk) nowhere 0 s₁.asm.labels s₁ held.fine) r
           (t ∙ fine-run {n = top} (code closing) nowhere 0 0 s₃ held.sound)
 

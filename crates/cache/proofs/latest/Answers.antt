@@ -8,12 +8,12 @@ use Rattle.cache.proofs.latest.Goals.{then-met, else-met}
 pub loop-k-preserved : goal.loop-k-preserved
 loop-k-preserved c =
     let l = c.loop-k in
-    let on = turn_on _ _ _ _ _ l.invariant.1 (omega arith) in
-    let off = turn_off _ _ _ _ _ l.invariant.1 (omega arith) in
-    (omega arith, elim c.if-met.branch [ then-met w ↦ on _ w.if-met.true w.q-is | else-met w ↦ off _ w.if-met.false w.q-is ])
+    let on = turn_on _ _ _ _ _ l.invariant (omega arith) in
+    let off = turn_off _ _ _ _ _ l.invariant (omega arith) in
+    elim c.if-met.branch [ then-met w ↦ on _ w.if-met.true w.order-is | else-met w ↦ off _ w.if-met.false w.order-is ]
 
 pub returns-else-met-2 : goal.returns-else-met-2
 returns-else-met-2 c =
     let l = c.loop-k in
     let e : l.k ≡ 7 = omega arith in
-    kept_last _ _ _ _ (subst (Sofar _ _ l.q l.met) e l.invariant.1) c.if-met-2.false
+    kept_last _ _ _ _ (subst (Sofar _ _ l.order l.met) e l.invariant) c.if-met-2.false

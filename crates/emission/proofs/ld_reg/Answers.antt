@@ -1,18 +1,8 @@
-use mathlib.Core.Path.{sym, ◌∙◌}
-use Rattle.cache.proofs.Cases.{touched_seated, assigned_seated}
-use Rattle.emission.proofs.Registers.{ld-held, ld-new}
+use Rattle.emission.proofs.Registers.{ld-seated}
+use Rattle.emission.proofs.Writes.{writes-same, writes-more}
 use Rattle.emission.proofs.ld_reg.Goals as goal
 
-pub returns-in-At : goal.returns-in-At
-returns-in-At c =
-    let e = sym c.in-At.is ∙ c.slot-found.ensures in (
-      ld-held _ _ _ _ _ _ e c.host.ensures _ _ c.mov-moved.ensures,
-      c.touch.ensures ∙ touched_seated _ _ _ e,
-    )
-
-pub returns : goal.returns
-returns c =
-    let e = sym c.in_default.is ∙ c.slot-found.ensures in (
-      ld-new _ _ _ _ _ _ e c.take_slot-taken.ensures c.host-h.ensures _ _ c.spill-freed.ensures _ _ _ c.off_reg.ensures (c.ins-filled.ensures _ c.ldr.ensures) c.mov-moved-2.ensures,
-      c.assign.ensures ∙ assigned_seated _ _ _ e c.take_slot-taken.ensures.chose,
-    )
+pub returns-clause-wrote : goal.returns-clause-wrote
+returns-clause-wrote c =
+    let g = c.args.g.now in
+    writes-same (ld-seated g.lay g.rc _ c.args.r _ _ c.seat-i.ensures.slot c.host.ensures) (writes-more _ _ c.seat-i.ensures.wrote c.mov.ensures)

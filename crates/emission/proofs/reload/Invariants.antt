@@ -1,16 +1,6 @@
--- So far i slots are done: what is left of them, run from here, ends as all of them from the start.
-use mathlib.Core.Path.{◌≡◌}
-use Prim.Native.Nat.{◌≤◌, ◌-◌}
-use lib.ListN.{length}
-use Rattle.asm.specs.State.{state}
-use Rattle.emission.specs.Total.{emitted}
-use Rattle.emission.proofs.Slots.{unloaded}
+-- So far i slots are done: what is left of them, written from here, ends as all of them from the start.
+use Rattle.emission.proofs.Slots.{unloaded, Onward}
 use Rattle.emission.proofs.reload.Given as goal
 
 abbrev pub invariant-loop-i : goal.invariant-loop-i
-invariant-loop-i l =
-    (l.i ≤ 8) × (length l.out ≡ length l.initial.out) × (length l.guest ≡ 8)
-    × (emitted (unloaded l.lay l.guest 0) (state l.initial.out l.initial.tab l.initial.q) ≡ emitted (unloaded l.lay l.guest l.i) (state l.out l.tab l.q))
-
-abbrev pub decreases-loop-i : goal.decreases-loop-i
-decreases-loop-i l = 8 - l.i
+invariant-loop-i l = Onward (unloaded l.g.lay l.g.rc.guest 0) (unloaded l.g.lay l.g.rc.guest l.i) l.initial.asm l.asm

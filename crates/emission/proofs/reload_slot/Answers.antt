@@ -1,5 +1,6 @@
-use Rattle.emission.proofs.Slots.{load-free}
+use Rattle.emission.proofs.Slots.{none_loaded}
+use Rattle.emission.proofs.Writes.{writes-nothing, writes-same}
 use Rattle.emission.proofs.reload_slot.Goals as goal
 
-pub returns : goal.returns
-returns c = load-free c.args.lay c.args.h c.args.g _ c.if-g-ne16.false
+pub returns-else-r-ne16 : goal.returns-else-r-ne16
+returns-else-r-ne16 c = writes-same (none_loaded c.args.lay c.args.h c.args.r c.if-r-ne16.false) writes-nothing

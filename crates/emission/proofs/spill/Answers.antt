@@ -1,5 +1,7 @@
-use Rattle.emission.proofs.Registers.{spill-nothing}
+use Rattle.std.proofs.Common.{◌≡◌, [], refl}
+use Rattle.cache.specs.Lookup.{spilled}
+use Rattle.emission.proofs.Writes.{writes-nothing, writes-same}
 use Rattle.emission.proofs.spill.Goals as goal
 
-pub returns-in-Nothing : goal.returns-in-Nothing
-returns-in-Nothing c = spill-nothing _ _ c.in-Nothing.is
+pub returns-in_default : goal.returns-in_default
+returns-in_default c = let e : [] ≡ spilled c.args.s = rw c.in_default.is refl in writes-same e writes-nothing

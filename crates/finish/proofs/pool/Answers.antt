@@ -1,5 +1,5 @@
 -- The invariant: the first i literals stand in the pool.
-use Rattle.std.proofs.Common.{refl, arith}
+use Rattle.std.proofs.Common.{refl}
 use Rattle.code.specs.Items.{halves}
 use Rattle.asm.specs.State.{literals_from}
 use Rattle.finish.specs.Finish.{write}
@@ -8,8 +8,7 @@ use Rattle.finish.proofs.pool.Goals as goal
 
 pub loop-i-init : goal.loop-i-init
 unfolding write halves literals_from
-loop-i-init c = (omega arith, refl)
+loop-i-init c = refl
 
 pub loop-i-preserved : goal.loop-i-preserved
-loop-i-preserved c =
-    (omega arith, pool_more _ _ _ _ _ _ _ _ _ c.loop-i.invariant.1 c.low.ensures c.high.ensures c.store.ensures c.store-in-loop-i.ensures)
+loop-i-preserved c = pool_more _ _ _ _ _ _ _ _ _ c.loop-i.invariant c.low.ensures c.high.ensures c.store.ensures c.store-in-loop-i.ensures

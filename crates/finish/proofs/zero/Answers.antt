@@ -1,7 +1,7 @@
--- The invariant: the first i words are 0, the others as they were.
-use Rattle.std.proofs.Common.{arith}
-use Rattle.finish.proofs.Cases.{zeros_all}
+-- A copy of 0 is 0.
+use Rattle.finish.specs.Finish.{zeros}
 use Rattle.finish.proofs.zero.Goals as goal
 
 pub returns : goal.returns
-returns c = zeros_all _ _ _ c.loop-i.invariant.2 c.loop-i.invariant.0 (omega arith)
+unfolding zeros
+returns c = c.fill.ensures.after (λ y e. e)

@@ -3,4 +3,5 @@ use Rattle.jumps.proofs.back.Goals as goal
 
 pub returns : goal.returns
 returns c n e =
-    back-after e _ _ _ _ _ _ _ _ _ _ c.new_label-back.ensures c.b-a.ensures c.bind.ensures c.mov32-a.ensures c.str.ensures
+    let l = c.new_label-back.ensures in
+    back-after e _ _ l.label l.wrote c.b.ensures c.bind.ensures c.mov32.ensures c.str.ensures

@@ -1,9 +1,11 @@
-use Rattle.emission.proofs.After.{none, more, same}
-use Rattle.jumps.proofs.Laws.{hold-set, hold-clear}
+use Rattle.lowering.specs.Fragments.{hold}
+use Rattle.emission.proofs.Writes.{writes-nothing, writes-more}
 use Rattle.jumps.proofs.hold.Goals as goal
 
 pub returns-then-glue : goal.returns-then-glue
-returns-then-glue c rc = same _ _ _ _ (hold-set _ _ _ c.if-glue.true) (more _ _ _ _ _ c.mov32-a.ensures c.str.ensures)
+unfolding hold
+returns-then-glue c = rw c.if-glue.true (writes-more _ _ c.mov32.ensures c.str.ensures)
 
-pub returns : goal.returns
-returns c rc = same _ _ _ _ (hold-clear _ _ _ c.if-glue.false) (none _)
+pub returns-else-glue : goal.returns-else-glue
+unfolding hold
+returns-else-glue c = rw c.if-glue.false writes-nothing

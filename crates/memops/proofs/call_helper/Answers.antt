@@ -1,6 +1,8 @@
+use Rattle.emission.specs.Gen.{given_of}
 use Rattle.memops.proofs.Laws.{helper}
 use Rattle.memops.proofs.call_helper.Goals as goal
 
 pub returns : goal.returns
 returns c =
-    helper _ _ _ _ _ _ _ _ c.flush-a.ensures c.ldr_lit_x-a.ensures (c.ins-a.ensures _ c.branch_reg.ensures) c.reload.ensures
+    let g = c.args.g.now in
+    helper (given_of g) g.rc _ c.flush.ensures c.ldr_lit_x.ensures (c.ins.ensures _ c.branch_reg.ensures) c.reload.ensures

@@ -1,6 +1,8 @@
-use Rattle.memops.proofs.Laws.{by_read_lem}
+use Rattle.emission.specs.Gen.{given_of}
+use Rattle.memops.proofs.Laws.{read-helper}
 use Rattle.memops.proofs.read.Goals as goal
 
 pub returns : goal.returns
 returns c =
-    by_read_lem _ _ _ _ _ _ _ _ _ _ _ _ _ _ c.bytes.ensures c.mov-a.ensures c.mov_x-a.ensures c.add_imm-a.ensures c.mov32-a.ensures c.call_helper-a.ensures c.extended.ensures
+    let g = c.args.g.now in
+    read-helper (given_of g) g.rc _ _ _ _ _ c.bytes.ensures c.mov.ensures c.mov_x.ensures c.add_imm.ensures c.mov32.ensures c.call_helper.ensures c.extended.ensures

@@ -3,5 +3,5 @@ use Rattle.memops.proofs.try_region.Goals as goal
 
 pub returns : goal.returns
 returns c =
-    region _ _ _ _ _ _ _ _ _ _ _ _ _ _ _ _ _ _ _ c.bytes.ensures c.room.ensures c.loads.ensures
-    c.mov32-a.ensures c.sub-a.ensures c.even-a.ensures c.mov32-a-2.ensures c.cmp-a.ensures c.b_cond-a.ensures c.indexed-a.ensures c.b.ensures
+    region _ _ _ _ _ _ _ _ _ _ c.bytes.ensures c.room.ensures c.loads.ensures
+    c.mov32.ensures c.sub.ensures c.even.ensures c.mov32-2.ensures c.cmp.ensures c.b_cond.ensures c.indexed.ensures c.b.ensures

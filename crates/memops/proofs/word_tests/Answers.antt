@@ -1,9 +1,10 @@
-use Rattle.memops.proofs.Laws.{no_words, with_words}
+use Rattle.lowering.specs.Fragments.{align_test}
+use Rattle.memops.proofs.Laws.{no_test, with_words}
 use Rattle.memops.proofs.word_tests.Goals as goal
 
 pub returns-then-tested : goal.returns-then-tested
-returns-then-tested c =
-    with_words _ _ _ _ _ c.if-tested.true c.tbnz-a.ensures c.tbnz.ensures
+returns-then-tested c = rw c.if-tested.true (with_words _ c.tbnz.ensures c.tbnz-then-tested.ensures)
 
-pub returns : goal.returns
-returns c = no_words _ _ _ c.if-tested.false
+pub returns-else-tested : goal.returns-else-tested
+unfolding align_test
+returns-else-tested c = rw c.if-tested.false (no_test _)

@@ -1,19 +1,24 @@
-use Rattle.std.proofs.Common.{refl, arith}
-use Rattle.emission.proofs.After.{none, same, more}
+use Rattle.std.proofs.Common.{arith}
+use Rattle.emission.proofs.Writes.{writes-nothing, writes-same, writes-more}
 use Rattle.moves.proofs.Arms.{add_none, add-moved, add-short, add-minus, add_both}
 use Rattle.moves.proofs.add_imm.Goals as goal
 
-pub returns-then-d-s : goal.returns-then-d-s
-returns-then-d-s c = same _ _ _ _ (add_none _ _ _ _ c.if-imm-eq0.true c.if-d-s.true refl) (none _)
+pub returns-else-d-s : goal.returns-else-d-s
+returns-else-d-s c = let a = c.args in writes-same (add_none a.d a.s a.imm c.if-imm-eq0.true c.if-d-s.false) writes-nothing
 
-pub returns-then-imm-eq0 : goal.returns-then-imm-eq0
-returns-then-imm-eq0 c = same _ _ _ _ (add-moved _ _ _ _ c.if-imm-eq0.true c.if-d-s.false refl) c.mov.ensures
+pub returns-then-d-s : goal.returns-then-d-s
+returns-then-d-s c = let a = c.args in writes-same (add-moved a.d a.s a.imm c.if-imm-eq0.true c.if-d-s.true) c.mov.ensures
 
 pub returns-then-imm-lt4096 : goal.returns-then-imm-lt4096
-returns-then-imm-lt4096 c = same _ _ _ _ (add-short _ _ _ _ c.if-imm-eq0.false c.if-imm-lt4096.true refl) c.add_imm.ensures
+returns-then-imm-lt4096 c = let a = c.args in writes-same (add-short a.d a.s a.imm c.if-imm-eq0.false c.if-imm-lt4096.true) c.add_imm.ensures
 
 pub returns-then-neg-lt4096 : goal.returns-then-neg-lt4096
-returns-then-neg-lt4096 c = same _ _ _ _ (add-minus _ _ _ _ _ c.if-imm-eq0.false c.if-imm-lt4096.false (omega (arith, c.wrapping_sub_u32-neg.ensures)) c.if-neg-lt4096.true refl) (c.ins.ensures _ c.add_sub_imm.ensures)
+returns-then-neg-lt4096 c =
+    let a = c.args in
+    writes-same (add-minus a.d a.s a.imm _ c.if-imm-eq0.false c.if-imm-lt4096.false (omega (arith, c.wrapping_neg-neg.ensures, c.wrapping_neg-neg.type_inv)) c.if-neg-lt4096.true) (c.ins.ensures _ c.add_sub_imm.ensures)
 
-pub returns : goal.returns
-returns c = same _ _ _ _ (add_both _ _ _ _ _ c.if-imm-eq0.false c.if-imm-lt4096.false (omega (arith, c.wrapping_sub_u32-neg.ensures)) c.if-neg-lt4096.false refl) (more _ _ _ _ _ c.mov32-a.ensures (c.ins-2.ensures _ c.add_sub_shifted.ensures))
+pub returns-else-neg-lt4096 : goal.returns-else-neg-lt4096
+returns-else-neg-lt4096 c =
+    let a = c.args in
+    writes-same (add_both a.d a.s a.imm _ c.if-imm-eq0.false c.if-imm-lt4096.false (omega (arith, c.wrapping_neg-neg.ensures, c.wrapping_neg-neg.type_inv)) c.if-neg-lt4096.false)
+    (writes-more _ _ c.mov32.ensures (c.ins-else-neg-lt4096.ensures _ c.add_sub_shifted.ensures))

@@ -1,17 +1,11 @@
-use Rattle.std.proofs.Common.{refl}
 use Rattle.lowering.specs.Fragments.{even}
-use Rattle.emission.proofs.After.{none, same, more}
-use Rattle.moves.proofs.Arms.{even-arm}
+use Rattle.emission.proofs.Writes.{writes-nothing, writes-same, writes-more}
+use Rattle.moves.proofs.Arms.{even_none}
 use Rattle.moves.proofs.even.Goals as goal
-
-pub returns-in-Byte : goal.returns-in-Byte
-unfolding even
-returns-in-Byte c = same _ _ _ _ (even-arm _ _ _ c.in-Byte.is refl) (none _)
 
 pub returns-in-Half : goal.returns-in-Half
 unfolding even
-returns-in-Half c = same _ _ _ _ (even-arm _ _ _ c.in-Half.is refl) (more _ _ _ _ _ c.mov32-a.ensures (c.ins.ensures _ c.logical_shifted.ensures))
+returns-in-Half c = rw c.in-Half.is (writes-more _ _ c.mov32.ensures (c.ins.ensures _ c.logical_shifted.ensures))
 
-pub returns-in-Word : goal.returns-in-Word
-unfolding even
-returns-in-Word c = same _ _ _ _ (even-arm _ _ _ c.in-Word.is refl) (none _)
+pub returns-in_default : goal.returns-in_default
+returns-in_default c = writes-same (even_none c.args.w c.in_default.not-Half) writes-nothing

@@ -1,5 +1,0 @@
-use Rattle.lower.proofs.Arms.{by_mov32}
-use Rattle.lower.proofs.sign.Goals as goal
-
-pub returns : goal.returns
-returns c = λ blk. by_mov32 blk _ _ _ _ _ _ _ _ _ c.sign.ensures (c.mov32.ensures blk)
