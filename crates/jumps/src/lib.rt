@@ -47,7 +47,7 @@ const OFF_BRK: u32 = 24;
 
 const OFF_SLOT: u32 = 32;
 
-// Conditions: not equal, and unsigned at most.
+// Conditions: not equal, and unsigned at most. They stay numbers: `fork` promises its code for each below 16, and so does `Asm::b_cond`.
 const NE: u32 = 1;
 
 const LS: u32 = 9;
