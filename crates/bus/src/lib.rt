@@ -1,118 +1,67 @@
 // Operations that use the bus (kinds 21 to 29), each as the steps of the definition's line for it, and what PushRet has in common with
 // PushRets; i is the operation's position.
-#![tactic(auto)]
+#![tactic(auto, using(stepping::proofs::Steps::steps_append), unfolding(stepping::specs::Done::steps_done, lowering::specs::Steps::lowered))]
 
 ghost use Rattle.std.specs.Prelude.{ℕ};
-ghost use Rattle.lowering.specs.Given.{given};
 ghost use Rattle.lowering.specs.Steps.{Step as Meant, lowered, changed as changed_by, rmw_value, push, rets};
 ghost use Rattle.choices.specs.Meaning.{instr_of};
 ghost use Rattle.lower.specs.Lowers.{Lowers};
 
-use block::{Addresses, Base, Fast, Layout, Memory, RmwOp, Width};
+use asm::Asm;
+use block::{Base, Fast, RmwOp, Width};
 use choices::Fixed;
-use lower::Lowered;
+use emission::Gen;
 
 const KEEP: u32 = 23;
 
 // w1 = the value read at KEEP, changed by an instruction on w0 and w2
-fn changed(
-    out: &mut [u32],
-    tab: &mut [u64; 6152],
-    q: Lowered,
-    lay: Layout,
-    mem: Memory,
-    addr: Addresses,
-    f: Fixed,
-    w: Width,
-    v: u32,
-    i: u32,
-) -> Lowered
-    ensures { Lowers (given lay mem addr) (changed_by (instr_of f) w v i) out.old tab.old q out.new tab.new result }
+fn changed(asm: &mut Asm, g: &Gen, f: Fixed, w: Width, v: u32, i: u32)
+    ensures { Lowers (changed_by (instr_of f) w v i) asm.old g.now asm.new g.now }
 {
-    let q = lower::named(out, tab, q, Fixed::Mov0Keep);
-    let q = lower::load(out, tab, q, lay, mem, addr, w, false, i);
-    let q = lower::mov32(out, tab, q, 2, v);
-    lower::named(out, tab, q, f)
+    lower::named(asm, Fixed::Mov0Keep);
+    lower::load(asm, g, w, false, i);
+    lower::mov32(asm, 2, v);
+    lower::named(asm, f);
 }
 
 // w1 = what Rmw stores
-fn rmw_value(
-    out: &mut [u32],
-    tab: &mut [u64; 6152],
-    q: Lowered,
-    lay: Layout,
-    mem: Memory,
-    addr: Addresses,
-    op: RmwOp,
-    w: Width,
-    v: u32,
-    i: u32,
-) -> Lowered
-    ensures { Lowers (given lay mem addr) (rmw_value op w v i) out.old tab.old q out.new tab.new result }
+fn rmw_value(asm: &mut Asm, g: &Gen, op: RmwOp, w: Width, v: u32, i: u32)
+    ensures { Lowers (rmw_value op w v i) asm.old g.now asm.new g.now }
 {
     match op {
-        RmwOp::Or => changed(out, tab, q, lay, mem, addr, Fixed::Orr102, w, v, i),
-        RmwOp::And => changed(out, tab, q, lay, mem, addr, Fixed::And102, w, v, i),
-        RmwOp::Xor => changed(out, tab, q, lay, mem, addr, Fixed::Eor102, w, v, i),
-        RmwOp::Add => changed(out, tab, q, lay, mem, addr, Fixed::Add102, w, v, i),
-        RmwOp::Sub => changed(out, tab, q, lay, mem, addr, Fixed::Sub102, w, v, i),
-        RmwOp::Mov => lower::mov32(out, tab, q, 1, v),
+        RmwOp::Or => changed(asm, g, Fixed::Orr102, w, v, i),
+        RmwOp::And => changed(asm, g, Fixed::And102, w, v, i),
+        RmwOp::Xor => changed(asm, g, Fixed::Eor102, w, v, i),
+        RmwOp::Add => changed(asm, g, Fixed::Add102, w, v, i),
+        RmwOp::Sub => changed(asm, g, Fixed::Sub102, w, v, i),
+        RmwOp::Mov => lower::mov32(asm, 1, v),
     }
 }
 
 // d = what is at b + off
-pub fn ld(
-    out: &mut [u32],
-    tab: &mut [u64; 6152],
-    q: Lowered,
-    lay: Layout,
-    mem: Memory,
-    addr: Addresses,
-    d: u8,
-    b: Base,
-    off: u32,
-    w: Width,
-    signed: bool,
-    i: u32,
-) -> Lowered
-    ensures { (next : ℕ) → Lowers (given lay mem addr) (lowered (Fast.Ld d b off w signed) i next) out.old tab.old q out.new tab.new result }
+pub fn ld(asm: &mut Asm, g: &mut Gen, d: u8, b: Base, off: u32, w: Width, signed: bool, i: u32)
+    ensures { (next : ℕ) → Lowers (lowered (Fast.Ld d b off w signed) i next) asm.old g.old asm.new g.new }
 {
-    let q = lower::ld_base(out, tab, q, lay, b);
-    let q = lower::add_imm(out, tab, q, 0, 0, off);
-    let q = lower::load(out, tab, q, lay, mem, addr, w, signed, i);
-    lower::st_reg(out, tab, q, lay, 0, d)
+    lower::ld_base(asm, g, b);
+    lower::add_imm(asm, 0, 0, off);
+    lower::load(asm, g, w, signed, i);
+    lower::st_reg(asm, g, 0, d);
 }
 
 // s to b + off
-pub fn st(
-    out: &mut [u32],
-    tab: &mut [u64; 6152],
-    q: Lowered,
-    lay: Layout,
-    mem: Memory,
-    addr: Addresses,
-    s: u8,
-    b: Base,
-    off: u32,
-    w: Width,
-    i: u32,
-) -> Lowered
-    ensures { (next : ℕ) → Lowers (given lay mem addr) (lowered (Fast.St s b off w) i next) out.old tab.old q out.new tab.new result }
+pub fn st(asm: &mut Asm, g: &mut Gen, s: u8, b: Base, off: u32, w: Width, i: u32)
+    ensures { (next : ℕ) → Lowers (lowered (Fast.St s b off w) i next) asm.old g.old asm.new g.new }
 {
-    let q = lower::ld_base(out, tab, q, lay, b);
-    let q = lower::add_imm(out, tab, q, 0, 0, off);
-    let q = lower::ld_reg(out, tab, q, lay, 1, s);
-    lower::store(out, tab, q, lay, mem, addr, w, true, i)
+    lower::ld_base(asm, g, b);
+    lower::add_imm(asm, 0, 0, off);
+    lower::ld_reg(asm, g, 1, s);
+    lower::store(asm, g, w, true, i);
 }
 
 // d = what is at b + x shifted
 pub fn ld_idx(
-    out: &mut [u32],
-    tab: &mut [u64; 6152],
-    q: Lowered,
-    lay: Layout,
-    mem: Memory,
-    addr: Addresses,
+    asm: &mut Asm,
+    g: &mut Gen,
     d: u8,
     b: u8,
     x: u8,
@@ -120,164 +69,88 @@ pub fn ld_idx(
     w: Width,
     signed: bool,
     i: u32,
-) -> Lowered
-    ensures { (next : ℕ) → Lowers (given lay mem addr) (lowered (Fast.LdIdx d b x sh w signed) i next) out.old tab.old q out.new tab.new result }
+)
+    ensures { (next : ℕ) → Lowers (lowered (Fast.LdIdx d b x sh w signed) i next) asm.old g.old asm.new g.new }
 {
-    let q = lower::ld_reg(out, tab, q, lay, 0, b);
-    let q = lower::ld_reg(out, tab, q, lay, 1, x);
-    let q = lower::add_lsl(out, tab, q, sh);
-    let q = lower::load(out, tab, q, lay, mem, addr, w, signed, i);
-    lower::st_reg(out, tab, q, lay, 0, d)
+    lower::ld_reg(asm, g, 0, b);
+    lower::ld_reg(asm, g, 1, x);
+    lower::add_lsl(asm, sh);
+    lower::load(asm, g, w, signed, i);
+    lower::st_reg(asm, g, 0, d);
 }
 
 // s to b + x shifted
-pub fn st_idx(
-    out: &mut [u32],
-    tab: &mut [u64; 6152],
-    q: Lowered,
-    lay: Layout,
-    mem: Memory,
-    addr: Addresses,
-    s: u8,
-    b: u8,
-    x: u8,
-    sh: u8,
-    w: Width,
-    i: u32,
-) -> Lowered
-    ensures { (next : ℕ) → Lowers (given lay mem addr) (lowered (Fast.StIdx s b x sh w) i next) out.old tab.old q out.new tab.new result }
+pub fn st_idx(asm: &mut Asm, g: &mut Gen, s: u8, b: u8, x: u8, sh: u8, w: Width, i: u32)
+    ensures { (next : ℕ) → Lowers (lowered (Fast.StIdx s b x sh w) i next) asm.old g.old asm.new g.new }
 {
-    let q = lower::ld_reg(out, tab, q, lay, 0, b);
-    let q = lower::ld_reg(out, tab, q, lay, 1, x);
-    let q = lower::add_lsl(out, tab, q, sh);
-    let q = lower::ld_reg(out, tab, q, lay, 1, s);
-    lower::store(out, tab, q, lay, mem, addr, w, true, i)
+    lower::ld_reg(asm, g, 0, b);
+    lower::ld_reg(asm, g, 1, x);
+    lower::add_lsl(asm, sh);
+    lower::ld_reg(asm, g, 1, s);
+    lower::store(asm, g, w, true, i);
 }
 
 // d = what is at b, then b = b + inc
-pub fn ld_post(
-    out: &mut [u32],
-    tab: &mut [u64; 6152],
-    q: Lowered,
-    lay: Layout,
-    mem: Memory,
-    addr: Addresses,
-    d: u8,
-    b: u8,
-    w: Width,
-    signed: bool,
-    inc: u32,
-    i: u32,
-) -> Lowered
-    ensures { (next : ℕ) → Lowers (given lay mem addr) (lowered (Fast.LdPost d b w signed inc) i next) out.old tab.old q out.new tab.new result }
+pub fn ld_post(asm: &mut Asm, g: &mut Gen, d: u8, b: u8, w: Width, signed: bool, inc: u32, i: u32)
+    ensures { (next : ℕ) → Lowers (lowered (Fast.LdPost d b w signed inc) i next) asm.old g.old asm.new g.new }
 {
-    let q = lower::ld_reg(out, tab, q, lay, 0, b);
-    let q = lower::load(out, tab, q, lay, mem, addr, w, signed, i);
-    let q = lower::st_reg(out, tab, q, lay, 0, d);
-    let q = lower::ld_reg(out, tab, q, lay, 0, b);
-    let q = lower::add_imm(out, tab, q, 0, 0, inc);
-    lower::st_reg(out, tab, q, lay, 0, b)
+    lower::ld_reg(asm, g, 0, b);
+    lower::load(asm, g, w, signed, i);
+    lower::st_reg(asm, g, 0, d);
+    lower::ld_reg(asm, g, 0, b);
+    lower::add_imm(asm, 0, 0, inc);
+    lower::st_reg(asm, g, 0, b);
 }
 
 // s to b, then b = b + inc
-pub fn st_post(
-    out: &mut [u32],
-    tab: &mut [u64; 6152],
-    q: Lowered,
-    lay: Layout,
-    mem: Memory,
-    addr: Addresses,
-    s: u8,
-    b: u8,
-    w: Width,
-    inc: u32,
-    i: u32,
-) -> Lowered
-    ensures { (next : ℕ) → Lowers (given lay mem addr) (lowered (Fast.StPost s b w inc) i next) out.old tab.old q out.new tab.new result }
+pub fn st_post(asm: &mut Asm, g: &mut Gen, s: u8, b: u8, w: Width, inc: u32, i: u32)
+    ensures { (next : ℕ) → Lowers (lowered (Fast.StPost s b w inc) i next) asm.old g.old asm.new g.new }
 {
-    let q = lower::ld_reg(out, tab, q, lay, 0, b);
-    let q = lower::ld_reg(out, tab, q, lay, 1, s);
-    let q = lower::store(out, tab, q, lay, mem, addr, w, true, i);
-    let q = lower::ld_reg(out, tab, q, lay, 0, b);
-    let q = lower::add_imm(out, tab, q, 0, 0, inc);
-    lower::st_reg(out, tab, q, lay, 0, b)
+    lower::ld_reg(asm, g, 0, b);
+    lower::ld_reg(asm, g, 1, s);
+    lower::store(asm, g, w, true, i);
+    lower::ld_reg(asm, g, 0, b);
+    lower::add_imm(asm, 0, 0, inc);
+    lower::st_reg(asm, g, 0, b);
 }
 
 // op(what is at b + off, v) back to it; Mov stores v.
-pub fn rmw(
-    out: &mut [u32],
-    tab: &mut [u64; 6152],
-    q: Lowered,
-    lay: Layout,
-    mem: Memory,
-    addr: Addresses,
-    b: u8,
-    w: Width,
-    op: RmwOp,
-    off: u32,
-    v: u32,
-    i: u32,
-) -> Lowered
-    ensures { (next : ℕ) → Lowers (given lay mem addr) (lowered (Fast.Rmw b w op off v) i next) out.old tab.old q out.new tab.new result }
+pub fn rmw(asm: &mut Asm, g: &mut Gen, b: u8, w: Width, op: RmwOp, off: u32, v: u32, i: u32)
+    ensures { (next : ℕ) → Lowers (lowered (Fast.Rmw b w op off v) i next) asm.old g.old asm.new g.new }
 {
-    let q = lower::ld_reg(out, tab, q, lay, 0, b);
-    let q = lower::add_imm(out, tab, q, KEEP, 0, off);
-    let q = rmw_value(out, tab, q, lay, mem, addr, op, w, v, i);
-    let q = lower::named(out, tab, q, Fixed::Mov0Keep);
-    lower::store(out, tab, q, lay, mem, addr, w, true, i)
+    lower::ld_reg(asm, g, 0, b);
+    lower::add_imm(asm, KEEP, 0, off);
+    rmw_value(asm, g, op, w, v, i);
+    lower::named(asm, Fixed::Mov0Keep);
+    lower::store(asm, g, w, true, i);
 }
 
 // rets to the stack, alone or as a word of a group
-pub fn rets_to_stack(
-    out: &mut [u32],
-    tab: &mut [u64; 6152],
-    q: Lowered,
-    lay: Layout,
-    mem: Memory,
-    addr: Addresses,
-    alone: bool,
-    i: u32,
-) -> Lowered
-    ensures { Lowers (given lay mem addr) (push alone i (Meant.ld_field rets 1)) out.old tab.old q out.new tab.new result }
+pub fn rets_to_stack(asm: &mut Asm, g: &Gen, alone: bool, i: u32)
+    ensures { Lowers (push alone i (Meant.ld_field rets 1)) asm.old g.now asm.new g.now }
 {
-    let q = lower::ld_field(out, tab, q, lay.sp, 0);
-    let q = lower::named(out, tab, q, Fixed::SubI004);
-    let q = lower::st_field(out, tab, q, lay.sp, 0);
-    let q = lower::ld_field(out, tab, q, lay.rets, 1);
-    lower::store(out, tab, q, lay, mem, addr, Width::Word, alone, i)
+    lower::ld_field(asm, g.lay.sp, 0);
+    lower::named(asm, Fixed::SubI004);
+    lower::st_field(asm, g.lay.sp, 0);
+    lower::ld_field(asm, g.lay.rets, 1);
+    lower::store(asm, g, Width::Word, alone, i);
 }
 
 // PushRet: rets to the stack, alone
-pub fn push_ret(
-    out: &mut [u32],
-    tab: &mut [u64; 6152],
-    q: Lowered,
-    lay: Layout,
-    mem: Memory,
-    addr: Addresses,
-    i: u32,
-) -> Lowered
-    ensures { (next : ℕ) → Lowers (given lay mem addr) (lowered (Fast.PushRet) i next) out.old tab.old q out.new tab.new result }
+pub fn push_ret(asm: &mut Asm, g: &Gen, i: u32)
+    ensures { (next : ℕ) → Lowers (lowered (Fast.PushRet) i next) asm.old g.now asm.new g.now }
 {
-    rets_to_stack(out, tab, q, lay, mem, addr, true, i)
+    rets_to_stack(asm, g, true, i);
 }
 
 // rets from the stack
-pub fn pop_rets(
-    out: &mut [u32],
-    tab: &mut [u64; 6152],
-    q: Lowered,
-    lay: Layout,
-    mem: Memory,
-    addr: Addresses,
-    i: u32,
-) -> Lowered
-    ensures { (next : ℕ) → Lowers (given lay mem addr) (lowered (Fast.PopRets) i next) out.old tab.old q out.new tab.new result }
+pub fn pop_rets(asm: &mut Asm, g: &Gen, i: u32)
+    ensures { (next : ℕ) → Lowers (lowered (Fast.PopRets) i next) asm.old g.now asm.new g.now }
 {
-    let q = lower::ld_field(out, tab, q, lay.sp, 0);
-    let q = lower::load(out, tab, q, lay, mem, addr, Width::Word, false, i);
-    let q = lower::st_field(out, tab, q, lay.rets, 0);
-    let q = lower::ld_field(out, tab, q, lay.sp, 0);
-    let q = lower::named(out, tab, q, Fixed::AddI004);
-    lower::st_field(out, tab, q, lay.sp, 0)
+    lower::ld_field(asm, g.lay.sp, 0);
+    lower::load(asm, g, Width::Word, false, i);
+    lower::st_field(asm, g.lay.rets, 0);
+    lower::ld_field(asm, g.lay.sp, 0);
+    lower::named(asm, Fixed::AddI004);
+    lower::st_field(asm, g.lay.sp, 0);
 }

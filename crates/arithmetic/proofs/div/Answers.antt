@@ -1,8 +1,0 @@
-use Rattle.lowering.specs.Steps.{lowered}
-use Rattle.lower.proofs.Laws.{lower4}
-use Rattle.arithmetic.proofs.div.Goals as goal
-
-pub returns : goal.returns
-unfolding lowered
-returns c =
-    λ mem addr i next. lower4 (c.ld_reg-q.ensures mem addr) (c.ld_reg-q-2.ensures mem addr) (c.divide-q.ensures _) (c.st_reg.ensures mem addr)
