@@ -22,6 +22,6 @@ pub pair_in : (x : ℤ) (b : Bool) (n : ℕ) → b ≡ reaches 512 x → b ≡ t
 unfolding is_pair_offset
 pair_in x b n p q e = ap (λ (m : ℕ). eqb (m % 8) 0) e ∙ ap (λ (c : Bool). both c (eqb (twos 512 x % 8) 0)) (sym q ∙ p)
 
-pub pair_out : (x : ℤ) (b : Bool) → b ≡ reaches 512 x → b ≡ false → false ≡ is_pair_offset x
+pub pair_out : (x : ℤ) (b : Bool) → b ≡ reaches 512 x → b ≡ false → b ≡ is_pair_offset x
 unfolding is_pair_offset
-pair_out x b p q = ap (λ (c : Bool). both c (eqb (twos 512 x % 8) 0)) (sym q ∙ p)
+pair_out x b p q = q ∙ ap (λ (c : Bool). both c (eqb (twos 512 x % 8) 0)) (sym q ∙ p)

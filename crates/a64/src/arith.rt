@@ -10,39 +10,39 @@ ghost use Rattle.arm.specs.declared.Instr.TheVariants.{AddSubImm, AddSubShifted,
 ghost use Rattle.words.specs.Answers.{answer, told};
 
 use arm::{AddSub, Flags, Instr, Shift, Size, Three, Two};
-use words::{Encoded, encode};
+use words::{EncodeError, encode};
 
-pub fn add_imm(rd: u32, rn: u32, imm: u32) -> Encoded
+pub fn add_imm(rd: u32, rn: u32, imm: u32) -> Result<u32, EncodeError>
     ensures { told result ≡ told (answer (AddSubImm W Add Keeps imm rn rd)) }
 {
     encode(Instr::AddSubImm(Size::W, AddSub::Add, Flags::Keeps, imm, rn, rd))
 }
 
-pub fn sub_imm(rd: u32, rn: u32, imm: u32) -> Encoded
+pub fn sub_imm(rd: u32, rn: u32, imm: u32) -> Result<u32, EncodeError>
     ensures { told result ≡ told (answer (AddSubImm W Sub Keeps imm rn rd)) }
 {
     encode(Instr::AddSubImm(Size::W, AddSub::Sub, Flags::Keeps, imm, rn, rd))
 }
 
-pub fn subs_imm(rd: u32, rn: u32, imm: u32) -> Encoded
+pub fn subs_imm(rd: u32, rn: u32, imm: u32) -> Result<u32, EncodeError>
     ensures { told result ≡ told (answer (AddSubImm W Sub Sets imm rn rd)) }
 {
     encode(Instr::AddSubImm(Size::W, AddSub::Sub, Flags::Sets, imm, rn, rd))
 }
 
-pub fn add_imm_x(rd: u32, rn: u32, imm: u32) -> Encoded
+pub fn add_imm_x(rd: u32, rn: u32, imm: u32) -> Result<u32, EncodeError>
     ensures { told result ≡ told (answer (AddSubImm X Add Keeps imm rn rd)) }
 {
     encode(Instr::AddSubImm(Size::X, AddSub::Add, Flags::Keeps, imm, rn, rd))
 }
 
-pub fn cmp_imm(rn: u32, imm: u32) -> Encoded
+pub fn cmp_imm(rn: u32, imm: u32) -> Result<u32, EncodeError>
     ensures { told result ≡ told (answer (AddSubImm W Sub Sets imm rn 31)) }
 {
     encode(Instr::AddSubImm(Size::W, AddSub::Sub, Flags::Sets, imm, rn, 31))
 }
 
-pub fn add(rd: u32, rn: u32, rm: u32) -> Encoded
+pub fn add(rd: u32, rn: u32, rm: u32) -> Result<u32, EncodeError>
     ensures { told result ≡ told (answer (AddSubShifted W Add Keeps Lsl rm 0 rn rd)) }
 {
     encode(Instr::AddSubShifted(
@@ -57,7 +57,7 @@ pub fn add(rd: u32, rn: u32, rm: u32) -> Encoded
     ))
 }
 
-pub fn add_x(rd: u32, rn: u32, rm: u32) -> Encoded
+pub fn add_x(rd: u32, rn: u32, rm: u32) -> Result<u32, EncodeError>
     ensures { told result ≡ told (answer (AddSubShifted X Add Keeps Lsl rm 0 rn rd)) }
 {
     encode(Instr::AddSubShifted(
@@ -72,7 +72,7 @@ pub fn add_x(rd: u32, rn: u32, rm: u32) -> Encoded
     ))
 }
 
-pub fn add_lsl(rd: u32, rn: u32, rm: u32, sh: u32) -> Encoded
+pub fn add_lsl(rd: u32, rn: u32, rm: u32, sh: u32) -> Result<u32, EncodeError>
     ensures { told result ≡ told (answer (AddSubShifted W Add Keeps Lsl rm sh rn rd)) }
 {
     encode(Instr::AddSubShifted(
@@ -87,7 +87,7 @@ pub fn add_lsl(rd: u32, rn: u32, rm: u32, sh: u32) -> Encoded
     ))
 }
 
-pub fn add_lsr(rd: u32, rn: u32, rm: u32, sh: u32) -> Encoded
+pub fn add_lsr(rd: u32, rn: u32, rm: u32, sh: u32) -> Result<u32, EncodeError>
     ensures { told result ≡ told (answer (AddSubShifted W Add Keeps Lsr rm sh rn rd)) }
 {
     encode(Instr::AddSubShifted(
@@ -102,7 +102,7 @@ pub fn add_lsr(rd: u32, rn: u32, rm: u32, sh: u32) -> Encoded
     ))
 }
 
-pub fn add_x_lsl(rd: u32, rn: u32, rm: u32, sh: u32) -> Encoded
+pub fn add_x_lsl(rd: u32, rn: u32, rm: u32, sh: u32) -> Result<u32, EncodeError>
     ensures { told result ≡ told (answer (AddSubShifted X Add Keeps Lsl rm sh rn rd)) }
 {
     encode(Instr::AddSubShifted(
@@ -117,7 +117,7 @@ pub fn add_x_lsl(rd: u32, rn: u32, rm: u32, sh: u32) -> Encoded
     ))
 }
 
-pub fn sub(rd: u32, rn: u32, rm: u32) -> Encoded
+pub fn sub(rd: u32, rn: u32, rm: u32) -> Result<u32, EncodeError>
     ensures { told result ≡ told (answer (AddSubShifted W Sub Keeps Lsl rm 0 rn rd)) }
 {
     encode(Instr::AddSubShifted(
@@ -132,7 +132,7 @@ pub fn sub(rd: u32, rn: u32, rm: u32) -> Encoded
     ))
 }
 
-pub fn sub_lsl(rd: u32, rn: u32, rm: u32, sh: u32) -> Encoded
+pub fn sub_lsl(rd: u32, rn: u32, rm: u32, sh: u32) -> Result<u32, EncodeError>
     ensures { told result ≡ told (answer (AddSubShifted W Sub Keeps Lsl rm sh rn rd)) }
 {
     encode(Instr::AddSubShifted(
@@ -147,25 +147,25 @@ pub fn sub_lsl(rd: u32, rn: u32, rm: u32, sh: u32) -> Encoded
     ))
 }
 
-pub fn subs(rd: u32, rn: u32, rm: u32) -> Encoded
+pub fn subs(rd: u32, rn: u32, rm: u32) -> Result<u32, EncodeError>
     ensures { told result ≡ told (answer (AddSubShifted W Sub Sets Lsl rm 0 rn rd)) }
 {
     encode(Instr::AddSubShifted(Size::W, AddSub::Sub, Flags::Sets, Shift::Lsl, rm, 0, rn, rd))
 }
 
-pub fn cmp(rn: u32, rm: u32) -> Encoded
+pub fn cmp(rn: u32, rm: u32) -> Result<u32, EncodeError>
     ensures { told result ≡ told (answer (AddSubShifted W Sub Sets Lsl rm 0 rn 31)) }
 {
     encode(Instr::AddSubShifted(Size::W, AddSub::Sub, Flags::Sets, Shift::Lsl, rm, 0, rn, 31))
 }
 
-pub fn cmp_x(rn: u32, rm: u32) -> Encoded
+pub fn cmp_x(rn: u32, rm: u32) -> Result<u32, EncodeError>
     ensures { told result ≡ told (answer (AddSubShifted X Sub Sets Lsl rm 0 rn 31)) }
 {
     encode(Instr::AddSubShifted(Size::X, AddSub::Sub, Flags::Sets, Shift::Lsl, rm, 0, rn, 31))
 }
 
-pub fn neg(rd: u32, rm: u32) -> Encoded
+pub fn neg(rd: u32, rm: u32) -> Result<u32, EncodeError>
     ensures { told result ≡ told (answer (AddSubShifted W Sub Keeps Lsl rm 0 31 rd)) }
 {
     encode(Instr::AddSubShifted(
@@ -180,37 +180,37 @@ pub fn neg(rd: u32, rm: u32) -> Encoded
     ))
 }
 
-pub fn sdiv(rd: u32, rn: u32, rm: u32) -> Encoded
+pub fn sdiv(rd: u32, rn: u32, rm: u32) -> Result<u32, EncodeError>
     ensures { told result ≡ told (answer (TwoSource W Sdiv rm rn rd)) }
 {
     encode(Instr::TwoSource(Size::W, Two::Sdiv, rm, rn, rd))
 }
 
-pub fn udiv(rd: u32, rn: u32, rm: u32) -> Encoded
+pub fn udiv(rd: u32, rn: u32, rm: u32) -> Result<u32, EncodeError>
     ensures { told result ≡ told (answer (TwoSource W Udiv rm rn rd)) }
 {
     encode(Instr::TwoSource(Size::W, Two::Udiv, rm, rn, rd))
 }
 
-pub fn msub(rd: u32, rn: u32, rm: u32, ra: u32) -> Encoded
+pub fn msub(rd: u32, rn: u32, rm: u32, ra: u32) -> Result<u32, EncodeError>
     ensures { told result ≡ told (answer (ThreeSource Msub rm ra rn rd)) }
 {
     encode(Instr::ThreeSource(Three::Msub, rm, ra, rn, rd))
 }
 
-pub fn mul(rd: u32, rn: u32, rm: u32) -> Encoded
+pub fn mul(rd: u32, rn: u32, rm: u32) -> Result<u32, EncodeError>
     ensures { told result ≡ told (answer (ThreeSource Madd rm 31 rn rd)) }
 {
     encode(Instr::ThreeSource(Three::Madd, rm, 31, rn, rd))
 }
 
-pub fn umull(rd: u32, rn: u32, rm: u32) -> Encoded
+pub fn umull(rd: u32, rn: u32, rm: u32) -> Result<u32, EncodeError>
     ensures { told result ≡ told (answer (ThreeSource Umaddl rm 31 rn rd)) }
 {
     encode(Instr::ThreeSource(Three::Umaddl, rm, 31, rn, rd))
 }
 
-pub fn smull(rd: u32, rn: u32, rm: u32) -> Encoded
+pub fn smull(rd: u32, rn: u32, rm: u32) -> Result<u32, EncodeError>
     ensures { told result ≡ told (answer (ThreeSource Smaddl rm 31 rn rd)) }
 {
     encode(Instr::ThreeSource(Three::Smaddl, rm, 31, rn, rd))

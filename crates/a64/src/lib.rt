@@ -1,4 +1,5 @@
-// The encoders of jit_a64.rs: what each instruction's word is, or why it is refused.
+// The encoders of jit_a64.rs: what each instruction's word is, or why it is refused. A function for each size, as the Rust has them (`add`,
+// `add_x`), since their names and arguments are the port's.
 #![tactic(auto)]
 
 ghost use Rattle.std.specs.Prelude.{◌≡◌};
@@ -51,7 +52,6 @@ pub use bitfield::tst_mask;
 pub use bitfield::ubfx;
 pub use bitfield::uxth;
 pub use chain::link;
-pub use constants::Sequence;
 pub use constants::add_imm32;
 pub use constants::gen_add_imm;
 pub use constants::ldr_lit_x;
@@ -122,7 +122,7 @@ pub use select::csel;
 pub use select::cset;
 pub use select::csinc;
 pub use select::csneg;
-pub use words::Encoded;
+pub use words::EncodeError;
 
 // The condition codes, by the numbers of the cond field.
 #[derive(Clone, Copy)]
@@ -144,25 +144,11 @@ pub enum Cond {
     Al,
 }
 
-pub fn cond_code(c: Cond) -> u32
-    ensures { result ≡ code c }
-{
-    match c {
-        Cond::Eq => 0,
-        Cond::Ne => 1,
-        Cond::Hs => 2,
-        Cond::Lo => 3,
-        Cond::Mi => 4,
-        Cond::Pl => 5,
-        Cond::Vs => 6,
-        Cond::Vc => 7,
-        Cond::Hi => 8,
-        Cond::Ls => 9,
-        Cond::Ge => 10,
-        Cond::Lt => 11,
-        Cond::Gt => 12,
-        Cond::Le => 13,
-        Cond::Al => 14,
+impl From<Cond> for u32 {
+    ghost from_gives = { λ c n. n ≡ code c };
+
+    fn from(c: Cond) -> u32 {
+        c as u32
     }
 }
 

@@ -9,9 +9,9 @@ ghost use Rattle.arm.specs.declared.Instr.TheVariants.{LogicalShifted, OneSource
 ghost use Rattle.words.specs.Answers.{answer, told};
 
 use arm::{Instr, Logic, One, Second, Shift, Size};
-use words::{Encoded, encode};
+use words::{EncodeError, encode};
 
-pub fn and(rd: u32, rn: u32, rm: u32) -> Encoded
+pub fn and(rd: u32, rn: u32, rm: u32) -> Result<u32, EncodeError>
     ensures { told result ≡ told (answer (LogicalShifted W And Plain Lsl rm 0 rn rd)) }
 {
     encode(Instr::LogicalShifted(
@@ -26,7 +26,7 @@ pub fn and(rd: u32, rn: u32, rm: u32) -> Encoded
     ))
 }
 
-pub fn orr(rd: u32, rn: u32, rm: u32) -> Encoded
+pub fn orr(rd: u32, rn: u32, rm: u32) -> Result<u32, EncodeError>
     ensures { told result ≡ told (answer (LogicalShifted W Orr Plain Lsl rm 0 rn rd)) }
 {
     encode(Instr::LogicalShifted(
@@ -41,7 +41,7 @@ pub fn orr(rd: u32, rn: u32, rm: u32) -> Encoded
     ))
 }
 
-pub fn orr_lsl(rd: u32, rn: u32, rm: u32, sh: u32) -> Encoded
+pub fn orr_lsl(rd: u32, rn: u32, rm: u32, sh: u32) -> Result<u32, EncodeError>
     ensures { told result ≡ told (answer (LogicalShifted W Orr Plain Lsl rm sh rn rd)) }
 {
     encode(Instr::LogicalShifted(
@@ -56,7 +56,7 @@ pub fn orr_lsl(rd: u32, rn: u32, rm: u32, sh: u32) -> Encoded
     ))
 }
 
-pub fn orr_x(rd: u32, rn: u32, rm: u32) -> Encoded
+pub fn orr_x(rd: u32, rn: u32, rm: u32) -> Result<u32, EncodeError>
     ensures { told result ≡ told (answer (LogicalShifted X Orr Plain Lsl rm 0 rn rd)) }
 {
     encode(Instr::LogicalShifted(
@@ -71,7 +71,7 @@ pub fn orr_x(rd: u32, rn: u32, rm: u32) -> Encoded
     ))
 }
 
-pub fn eor(rd: u32, rn: u32, rm: u32) -> Encoded
+pub fn eor(rd: u32, rn: u32, rm: u32) -> Result<u32, EncodeError>
     ensures { told result ≡ told (answer (LogicalShifted W Eor Plain Lsl rm 0 rn rd)) }
 {
     encode(Instr::LogicalShifted(
@@ -86,7 +86,7 @@ pub fn eor(rd: u32, rn: u32, rm: u32) -> Encoded
     ))
 }
 
-pub fn eor_lsr(rd: u32, rn: u32, rm: u32, sh: u32) -> Encoded
+pub fn eor_lsr(rd: u32, rn: u32, rm: u32, sh: u32) -> Result<u32, EncodeError>
     ensures { told result ≡ told (answer (LogicalShifted W Eor Plain Lsr rm sh rn rd)) }
 {
     encode(Instr::LogicalShifted(
@@ -101,7 +101,7 @@ pub fn eor_lsr(rd: u32, rn: u32, rm: u32, sh: u32) -> Encoded
     ))
 }
 
-pub fn bic(rd: u32, rn: u32, rm: u32) -> Encoded
+pub fn bic(rd: u32, rn: u32, rm: u32) -> Result<u32, EncodeError>
     ensures { told result ≡ told (answer (LogicalShifted W And Inverted Lsl rm 0 rn rd)) }
 {
     encode(Instr::LogicalShifted(
@@ -116,7 +116,7 @@ pub fn bic(rd: u32, rn: u32, rm: u32) -> Encoded
     ))
 }
 
-pub fn ands(rd: u32, rn: u32, rm: u32) -> Encoded
+pub fn ands(rd: u32, rn: u32, rm: u32) -> Result<u32, EncodeError>
     ensures { told result ≡ told (answer (LogicalShifted W Ands Plain Lsl rm 0 rn rd)) }
 {
     encode(Instr::LogicalShifted(
@@ -131,7 +131,7 @@ pub fn ands(rd: u32, rn: u32, rm: u32) -> Encoded
     ))
 }
 
-pub fn tst(rn: u32, rm: u32) -> Encoded
+pub fn tst(rn: u32, rm: u32) -> Result<u32, EncodeError>
     ensures { told result ≡ told (answer (LogicalShifted W Ands Plain Lsl rm 0 rn 31)) }
 {
     encode(Instr::LogicalShifted(
@@ -146,19 +146,19 @@ pub fn tst(rn: u32, rm: u32) -> Encoded
     ))
 }
 
-pub fn rev(rd: u32, rn: u32) -> Encoded
+pub fn rev(rd: u32, rn: u32) -> Result<u32, EncodeError>
     ensures { told result ≡ told (answer (OneSource Rev rn rd)) }
 {
     encode(Instr::OneSource(One::Rev, rn, rd))
 }
 
-pub fn rev16(rd: u32, rn: u32) -> Encoded
+pub fn rev16(rd: u32, rn: u32) -> Result<u32, EncodeError>
     ensures { told result ≡ told (answer (OneSource Rev16 rn rd)) }
 {
     encode(Instr::OneSource(One::Rev16, rn, rd))
 }
 
-pub fn clz(rd: u32, rn: u32) -> Encoded
+pub fn clz(rd: u32, rn: u32) -> Result<u32, EncodeError>
     ensures { told result ≡ told (answer (OneSource Clz rn rd)) }
 {
     encode(Instr::OneSource(One::Clz, rn, rd))

@@ -9,54 +9,48 @@ ghost use Rattle.arm.specs.declared.Instr.TheVariants.{MoveWide, LogicalShifted}
 ghost use Rattle.words.specs.Answers.{answer, answer_if, told};
 
 use arm::{Instr, Logic, Move, Second, Shift, Size};
-use words::{Encoded, encode, encode_if};
+use words::{EncodeError, encode, encode_if};
 
-pub fn movz(rd: u32, imm16: u32, shift: u32) -> Encoded
+fn wide(z: Size, m: Move, rd: u32, imm16: u32, shift: u32) -> Result<u32, EncodeError>
+    ensures { told result ≡ told (answer_if (eqb (shift % 16) 0) (MoveWide z m (shift / 16) (imm16 % 65536) rd)) }
+{
+    encode_if(
+        shift % 16 == 0,
+        Instr::MoveWide(z, m, shift / 16, imm16 % 65536, rd),
+    )
+}
+
+pub fn movz(rd: u32, imm16: u32, shift: u32) -> Result<u32, EncodeError>
     ensures { told result ≡ told (answer_if (eqb (shift % 16) 0) (MoveWide W Movz (shift / 16) (imm16 % 65536) rd)) }
 {
-    encode_if(
-        shift % 16 == 0,
-        Instr::MoveWide(Size::W, Move::Movz, shift / 16, imm16 % 65536, rd),
-    )
+    wide(Size::W, Move::Movz, rd, imm16, shift)
 }
 
-pub fn movk(rd: u32, imm16: u32, shift: u32) -> Encoded
+pub fn movk(rd: u32, imm16: u32, shift: u32) -> Result<u32, EncodeError>
     ensures { told result ≡ told (answer_if (eqb (shift % 16) 0) (MoveWide W Movk (shift / 16) (imm16 % 65536) rd)) }
 {
-    encode_if(
-        shift % 16 == 0,
-        Instr::MoveWide(Size::W, Move::Movk, shift / 16, imm16 % 65536, rd),
-    )
+    wide(Size::W, Move::Movk, rd, imm16, shift)
 }
 
-pub fn movn(rd: u32, imm16: u32, shift: u32) -> Encoded
+pub fn movn(rd: u32, imm16: u32, shift: u32) -> Result<u32, EncodeError>
     ensures { told result ≡ told (answer_if (eqb (shift % 16) 0) (MoveWide W Movn (shift / 16) (imm16 % 65536) rd)) }
 {
-    encode_if(
-        shift % 16 == 0,
-        Instr::MoveWide(Size::W, Move::Movn, shift / 16, imm16 % 65536, rd),
-    )
+    wide(Size::W, Move::Movn, rd, imm16, shift)
 }
 
-pub fn movz_x(rd: u32, imm16: u32, shift: u32) -> Encoded
+pub fn movz_x(rd: u32, imm16: u32, shift: u32) -> Result<u32, EncodeError>
     ensures { told result ≡ told (answer_if (eqb (shift % 16) 0) (MoveWide X Movz (shift / 16) (imm16 % 65536) rd)) }
 {
-    encode_if(
-        shift % 16 == 0,
-        Instr::MoveWide(Size::X, Move::Movz, shift / 16, imm16 % 65536, rd),
-    )
+    wide(Size::X, Move::Movz, rd, imm16, shift)
 }
 
-pub fn movk_x(rd: u32, imm16: u32, shift: u32) -> Encoded
+pub fn movk_x(rd: u32, imm16: u32, shift: u32) -> Result<u32, EncodeError>
     ensures { told result ≡ told (answer_if (eqb (shift % 16) 0) (MoveWide X Movk (shift / 16) (imm16 % 65536) rd)) }
 {
-    encode_if(
-        shift % 16 == 0,
-        Instr::MoveWide(Size::X, Move::Movk, shift / 16, imm16 % 65536, rd),
-    )
+    wide(Size::X, Move::Movk, rd, imm16, shift)
 }
 
-pub fn mov(rd: u32, rm: u32) -> Encoded
+pub fn mov(rd: u32, rm: u32) -> Result<u32, EncodeError>
     ensures { told result ≡ told (answer (LogicalShifted W Orr Plain Lsl rm 0 31 rd)) }
 {
     encode(Instr::LogicalShifted(
@@ -71,7 +65,7 @@ pub fn mov(rd: u32, rm: u32) -> Encoded
     ))
 }
 
-pub fn mov_x(rd: u32, rm: u32) -> Encoded
+pub fn mov_x(rd: u32, rm: u32) -> Result<u32, EncodeError>
     ensures { told result ≡ told (answer (LogicalShifted X Orr Plain Lsl rm 0 31 rd)) }
 {
     encode(Instr::LogicalShifted(
@@ -86,7 +80,7 @@ pub fn mov_x(rd: u32, rm: u32) -> Encoded
     ))
 }
 
-pub fn mvn(rd: u32, rm: u32) -> Encoded
+pub fn mvn(rd: u32, rm: u32) -> Result<u32, EncodeError>
     ensures { told result ≡ told (answer (LogicalShifted W Orr Inverted Lsl rm 0 31 rd)) }
 {
     encode(Instr::LogicalShifted(

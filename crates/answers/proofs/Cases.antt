@@ -7,9 +7,7 @@ use lib.Dec.{ltb}
 use lib.ListN.{length, drop}
 use borrow.Author.Tests.{ltb-true, ltb-false, lt-ltb, le-ltb}
 use Rattle.block.specs.declared.Block.{Block}
-use Rattle.record.specs.declared.Answer.{Answer}
-use Rattle.record.specs.declared.Answer.TheVariants.{Accepted as NoFault, Refused as Fault}
-use Rattle.record.specs.Record.{reading}
+use Rattle.record.specs.Record.{Answer, Accepted as NoFault, Refused as Fault, reading}
 use Rattle.code.proofs.Order.{lay-fits}
 use Rattle.lowering.specs.Compile.{block_words, body_offset, sites}
 use Rattle.finish.specs.Finish.{zeros}

@@ -8,9 +8,7 @@ use Prim.Native.Nat.{ℕ, ◌<◌, ◌≤◌, ◌/◌, ◌%◌}
 use lib.ListN.{length, drop, replicate}
 use Rattle.block.specs.declared.Block.{Block}
 use Rattle.block.specs.Block.{no_guard}
-use Rattle.record.specs.declared.Answer.TheVariants.{Accepted as NoFault}
-use Rattle.record.specs.declared.Reading.{Reading}
-use Rattle.record.specs.Record.{nop, num16, num32, num64, field_fault, layout_fault, region_fault, memory_fault, start_fault, contents_fault}
+use Rattle.record.specs.Record.{Accepted as NoFault, Reading, nop, num16, num32, num64, field_fault, layout_fault, region_fault, memory_fault, start_fault, contents_fault}
 use Rattle.record.specs.Record.{operation_of, operation_fault, operations, header, refused_or, layout_field, memory_field, addresses_field}
 use Rattle.record.specs.Record.{start_field, guard_field, within_ram, reading}
 use Rattle.code.specs.Items.{index, add, halves, pad_of, base_of}

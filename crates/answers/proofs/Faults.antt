@@ -3,9 +3,7 @@ use mathlib.Core.Path.{◌≡◌, refl}
 use mathlib.Core.Bool.{true}
 use mathlib.Core.List.{List}
 use Prim.Native.Nat.{ℕ}
-use Rattle.record.specs.declared.Answer.{Answer}
-use Rattle.record.specs.declared.Answer.TheVariants.{Accepted, Refused}
-use Rattle.record.specs.Record.{reading, reading_faults, among}
+use Rattle.record.specs.Record.{Answer, Accepted, Refused, reading, reading_faults, among}
 use Rattle.record.proofs.Faults.{none_listed, told}
 
 abbrev pub Early : Answer → Type 0

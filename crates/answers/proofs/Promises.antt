@@ -8,8 +8,7 @@ use native.Mathlib.Omega.{arith}
 use lib.ListN.{length, take, drop}
 use lib.Seq.{take-append_seam, drop-append_seam}
 use Rattle.block.specs.declared.Block.{Block}
-use Rattle.record.specs.declared.Answer.TheVariants.{Refused as Fault}
-use Rattle.record.specs.Record.{reading, reading_faults, among}
+use Rattle.record.specs.Record.{Refused as Fault, reading, reading_faults, among}
 use Rattle.record.proofs.Accepted.{Bytes, read-checked}
 use Rattle.record.proofs.Faults.{among-behind}
 use Rattle.lowering.specs.declared.Site.{Site}

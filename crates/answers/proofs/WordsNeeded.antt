@@ -8,9 +8,7 @@ use lib.ListN.{length, length-map, length-append}
 use Rattle.arm.specs.Instr.{encode}
 use Rattle.block.specs.declared.Block.{Block}
 use Rattle.block.specs.Checked.{Checked}
-use Rattle.record.specs.declared.Answer.{Answer}
-use Rattle.record.specs.declared.Answer.TheVariants.{Accepted as NoFault, Refused as Fault}
-use Rattle.record.specs.Record.{reading}
+use Rattle.record.specs.Record.{Answer, Accepted as NoFault, Refused as Fault, reading}
 use Rattle.record.proofs.Accepted.{Bytes, read-checked}
 use Rattle.code.specs.Items.{size, pad_of, halves}
 use Rattle.lowering.specs.Compile.{block_words}

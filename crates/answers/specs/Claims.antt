@@ -1,8 +1,7 @@
 -- WHAT A READER ASKS OF THE ANSWER AND OF THE LENT WORDS: when a record is accepted, when the answer is 10, and which words stand where.
 -- Proved for every list of bytes and every lent slice (proofs/Promises.antt `translations`).
 use Rattle.std.specs.Prelude.{◌≡◌, true, false, List, ◌∷◌, ℕ, ◌<◌, ◌≤◌, length, take, drop}
-use Rattle.record.specs.declared.Answer.TheVariants.{Accepted as NoFault, Refused as Fault}
-use Rattle.record.specs.Record.{reading, reading_faults, among}
+use Rattle.record.specs.Record.{Accepted as NoFault, Refused as Fault, reading, reading_faults, among}
 use Rattle.lowering.specs.declared.Site.{Site}
 use Rattle.lowering.specs.Compile.{block_words, body_offset, sites}
 use Rattle.lowering.specs.Commit.{commit_words}

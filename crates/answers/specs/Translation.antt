@@ -2,9 +2,7 @@
 -- listing".
 use Rattle.std.specs.Prelude.{List, ℕ, ltb, length}
 use Rattle.block.specs.declared.Block.{Block}
-use Rattle.record.specs.declared.Answer.{Answer}
-use Rattle.record.specs.declared.Answer.TheVariants.{Accepted as NoFault, Refused as Fault}
-use Rattle.record.specs.Record.{reading}
+use Rattle.record.specs.Record.{Answer, Accepted as NoFault, Refused as Fault, reading}
 use Rattle.code.specs.Items.{pick}
 use Rattle.lowering.specs.declared.Site.{Site}
 use Rattle.lowering.specs.Compile.{block_words, body_offset, sites}

@@ -2,9 +2,7 @@
 -- are written".
 use Rattle.std.specs.Prelude.{◌≡◌, List, ℕ, ◌+◌, ◌*◌, ◌<◌, ◌≤◌, length}
 use Rattle.block.specs.declared.Block.{Block}
-use Rattle.record.specs.declared.Answer.{Answer}
-use Rattle.record.specs.declared.Answer.TheVariants.{Accepted as NoFault, Refused as Fault}
-use Rattle.record.specs.Record.{reading}
+use Rattle.record.specs.Record.{Answer, Accepted as NoFault, Refused as Fault, reading}
 use Rattle.code.specs.Items.{size, pad_of}
 use Rattle.lowering.specs.Compile.{block_words, body_offset, sites}
 use Rattle.bounds.specs.Whole.{items_of, meant, block_pool}

@@ -2,401 +2,312 @@
 // name that is none of them is looked for in the function that the last arm calls.
 #![tactic(auto)]
 
-use a64::{Cond, Encoded};
-use constants::Sequence;
+use a64::{Cond, EncodeError};
+use arrayvec::ArrayVec;
+use std::num::TryFromIntError;
+use text::signed;
 
-// What answers a line that is no call: a refusal by a number that no refusal has.
-pub const UNKNOWN: u32 = 0;
-
-// Registers and the other unsigned numbers are below it.
-const WORD: u64 = 4294967296;
-
-// The last condition.
-const AL: u64 = 14;
-
-// The count of a line that has too many words behind its name, or one that is no number.
-pub const NO_NUMBERS: usize = 5;
-
-// The numbers of a call, 64 bits each, and how many there are.
-#[derive(Clone, Copy)]
-pub struct Numbers {
-    pub count: usize,
-    pub values: [u64; 4],
+// Why a line has no words: it is no call, or its call is refused.
+#[derive(Clone, Copy, Debug, PartialEq, Eq)]
+pub enum CallError {
+    Unknown,
+    Refused(EncodeError),
 }
 
-pub fn call(name: &[u8], numbers: Numbers) -> Sequence {
-    let v = numbers.values;
-    let count = numbers.count;
-    match count {
-        0 => single(none(name)),
-        1 => single(one(name, v[0])),
-        2 => two(name, v[0], v[1]),
-        3 => three(name, v[0], v[1], v[2]),
-        4 => four(name, v[0], v[1], v[2], v[3]),
-        _ => Sequence::Refused(UNKNOWN),
+impl From<EncodeError> for CallError {
+    fn from(e: EncodeError) -> CallError {
+        CallError::Refused(e)
     }
 }
 
-fn single(e: Encoded) -> Sequence {
-    match e {
-        Encoded::Word(w) => Sequence::One(w),
-        Encoded::Refused(n) => Sequence::Refused(n),
+impl From<TryFromIntError> for CallError {
+    fn from(_e: TryFromIntError) -> CallError {
+        CallError::Unknown
     }
 }
 
-fn low(x: u64) -> u32 {
-    (x % WORD) as u32
+pub fn call(name: &[u8], numbers: &[u64]) -> Result<ArrayVec<u32, 4>, CallError> {
+    match numbers {
+        &[a, b] => two(name, a, b),
+        &[a, b, c] => three(name, a, b, c),
+        &[a, b, c, d] => four(name, a, b, c, d),
+        [] => single(none(name)),
+        &[a] => single(one(name, a)),
+        _ => Err(CallError::Unknown),
+    }
 }
 
-fn cond(n: u64) -> Cond {
+fn single(word: Result<u32, CallError>) -> Result<ArrayVec<u32, 4>, CallError> {
+    let mut words = ArrayVec::new();
+    words.push(word?);
+    Ok(words)
+}
+
+fn cond(n: u64) -> Result<Cond, CallError> {
     match n {
-        0 => Cond::Eq,
-        1 => Cond::Ne,
-        2 => Cond::Hs,
-        3 => Cond::Lo,
-        4 => Cond::Mi,
-        5 => Cond::Pl,
-        6 => Cond::Vs,
-        7 => Cond::Vc,
-        8 => Cond::Hi,
-        9 => Cond::Ls,
-        10 => Cond::Ge,
-        11 => Cond::Lt,
-        12 => Cond::Gt,
-        13 => Cond::Le,
-        _ => Cond::Al,
+        0 => Ok(Cond::Eq),
+        1 => Ok(Cond::Ne),
+        2 => Ok(Cond::Hs),
+        3 => Ok(Cond::Lo),
+        4 => Ok(Cond::Mi),
+        5 => Ok(Cond::Pl),
+        6 => Ok(Cond::Vs),
+        7 => Ok(Cond::Vc),
+        8 => Ok(Cond::Hi),
+        9 => Ok(Cond::Ls),
+        10 => Ok(Cond::Ge),
+        11 => Ok(Cond::Lt),
+        12 => Ok(Cond::Gt),
+        13 => Ok(Cond::Le),
+        14 => Ok(Cond::Al),
+        _ => Err(CallError::Unknown),
     }
 }
 
 // An offset of 32 bits. One that has more is no more a multiple of 8 than the largest, and refused as that is.
 fn offset(bits: u64) -> i32 {
-    if bits < 2147483648 {
-        return bits as i32;
-    }
-    if u64::MAX - bits < 2147483648 {
-        return -1 - ((u64::MAX - bits) as i32);
-    }
-    i32::MAX
+    i32::try_from(signed(bits)).unwrap_or(i32::MAX)
 }
 
-fn none(name: &[u8]) -> Encoded {
-    match text::place(b"ret", name) {
-        0 => a64::ret(),
-        _ => Encoded::Refused(UNKNOWN),
+fn none(name: &[u8]) -> Result<u32, CallError> {
+    match name {
+        b"ret" => Ok(a64::ret()?),
+        _ => Err(CallError::Unknown),
     }
 }
 
-fn one(name: &[u8], a: u64) -> Encoded {
-    match text::place(b"b", name) {
-        0 => a64::b(text::signed(a)),
-        _ => jump(name, a),
+fn one(name: &[u8], a: u64) -> Result<u32, CallError> {
+    match name {
+        b"b" => Ok(a64::b(signed(a))?),
+        b"blr" => Ok(a64::blr(u32::try_from(a)?)?),
+        b"br" => Ok(a64::br(u32::try_from(a)?)?),
+        _ => Err(CallError::Unknown),
     }
 }
 
-fn jump(name: &[u8], a: u64) -> Encoded {
-    if WORD <= a {
-        return Encoded::Refused(UNKNOWN);
-    }
-    match text::place(b"blr br", name) {
-        0 => a64::blr(low(a)),
-        1 => a64::br(low(a)),
-        _ => Encoded::Refused(UNKNOWN),
+fn two(name: &[u8], a: u64, b: u64) -> Result<ArrayVec<u32, 4>, CallError> {
+    match name {
+        b"link" => single(Ok(a64::link(signed(a), signed(b))?)),
+        b"b_cond" => single(Ok(a64::b_cond(cond(a)?, signed(b))?)),
+        _ => constant(name, u32::try_from(a)?, b),
     }
 }
 
-fn two(name: &[u8], a: u64, b: u64) -> Sequence {
-    match text::place(b"link b_cond", name) {
-        0 => single(a64::link(text::signed(a), text::signed(b))),
-        1 => single(b_cond(a, b)),
-        _ => constant(name, a, b),
+fn constant(name: &[u8], rd: u32, imm: u64) -> Result<ArrayVec<u32, 4>, CallError> {
+    match name {
+        b"ldr_lit_x" => Ok(a64::ldr_lit_x(rd, imm)?),
+        b"mov64" => Ok(a64::mov64(rd, imm)?),
+        b"mov32" => Ok(a64::mov32(rd, u32::try_from(imm)?)?),
+        _ => single(compare(name, rd, imm)),
     }
 }
 
-fn b_cond(c: u64, distance: u64) -> Encoded {
-    if AL < c {
-        return Encoded::Refused(UNKNOWN);
-    }
-    a64::b_cond(cond(c), text::signed(distance))
+fn compare(name: &[u8], rt: u32, b: u64) -> Result<u32, CallError> {
+    let word = match name {
+        b"cbz" => a64::cbz(rt, signed(b)),
+        b"cbnz" => a64::cbnz(rt, signed(b)),
+        b"cbz_x" => a64::cbz_x(rt, signed(b)),
+        b"cbnz_x" => a64::cbnz_x(rt, signed(b)),
+        b"adr" => a64::adr(rt, signed(b)),
+        b"cset" => a64::cset(rt, cond(b)?),
+        _ => return pair(name, rt, u32::try_from(b)?),
+    };
+    Ok(word?)
 }
 
-fn constant(name: &[u8], rd: u64, imm: u64) -> Sequence {
-    if WORD <= rd {
-        return Sequence::Refused(UNKNOWN);
-    }
-    match text::place(b"ldr_lit_x mov64 mov32", name) {
-        0 => a64::ldr_lit_x(low(rd), imm),
-        1 => a64::mov64(low(rd), imm),
-        2 => mov32(low(rd), imm),
-        _ => single(compare(name, low(rd), imm)),
-    }
+fn pair(name: &[u8], rd: u32, rn: u32) -> Result<u32, CallError> {
+    let word = match name {
+        b"mov" => a64::mov(rd, rn),
+        b"mov_x" => a64::mov_x(rd, rn),
+        b"cmp_imm" => a64::cmp_imm(rd, rn),
+        b"cmp" => a64::cmp(rd, rn),
+        b"cmp_x" => a64::cmp_x(rd, rn),
+        b"neg" => a64::neg(rd, rn),
+        b"mvn" => a64::mvn(rd, rn),
+        b"rev" => a64::rev(rd, rn),
+        b"rev16" => a64::rev16(rd, rn),
+        b"tst" => a64::tst(rd, rn),
+        b"sxth" => a64::sxth(rd, rn),
+        b"uxth" => a64::uxth(rd, rn),
+        b"clz" => a64::clz(rd, rn),
+        _ => return float(name, rd, rn),
+    };
+    Ok(word?)
 }
 
-fn mov32(rd: u32, imm: u64) -> Sequence {
-    if WORD <= imm {
-        return Sequence::Refused(UNKNOWN);
-    }
-    a64::mov32(rd, low(imm))
+fn float(name: &[u8], d: u32, n: u32) -> Result<u32, CallError> {
+    let word = match name {
+        b"fmov_s_w" => a64::fmov_s_w(d, n),
+        b"fmov_w_s" => a64::fmov_w_s(d, n),
+        b"fcmp" => a64::fcmp(d, n),
+        b"fcvtzs" => a64::fcvtzs(d, n),
+        b"fcvtzu" => a64::fcvtzu(d, n),
+        b"scvtf" => a64::scvtf(d, n),
+        b"ucvtf" => a64::ucvtf(d, n),
+        _ => return Err(CallError::Unknown),
+    };
+    Ok(word?)
 }
 
-fn compare(name: &[u8], rt: u32, b: u64) -> Encoded {
-    match text::place(b"cbz cbnz cbz_x cbnz_x adr cset", name) {
-        0 => a64::cbz(rt, text::signed(b)),
-        1 => a64::cbnz(rt, text::signed(b)),
-        2 => a64::cbz_x(rt, text::signed(b)),
-        3 => a64::cbnz_x(rt, text::signed(b)),
-        4 => a64::adr(rt, text::signed(b)),
-        5 => cset(rt, b),
-        _ => pair(name, rt, b),
-    }
-}
-
-fn cset(rd: u32, c: u64) -> Encoded {
-    if AL < c {
-        return Encoded::Refused(UNKNOWN);
-    }
-    a64::cset(rd, cond(c))
-}
-
-fn pair(name: &[u8], rd: u32, b: u64) -> Encoded {
-    if WORD <= b {
-        return Encoded::Refused(UNKNOWN);
-    }
-    let rn = low(b);
-    match text::place(
-        b"mov mov_x cmp_imm cmp cmp_x neg mvn rev rev16 tst sxth uxth clz",
-        name,
-    ) {
-        0 => a64::mov(rd, rn),
-        1 => a64::mov_x(rd, rn),
-        2 => a64::cmp_imm(rd, rn),
-        3 => a64::cmp(rd, rn),
-        4 => a64::cmp_x(rd, rn),
-        5 => a64::neg(rd, rn),
-        6 => a64::mvn(rd, rn),
-        7 => a64::rev(rd, rn),
-        8 => a64::rev16(rd, rn),
-        9 => a64::tst(rd, rn),
-        10 => a64::sxth(rd, rn),
-        11 => a64::uxth(rd, rn),
-        12 => a64::clz(rd, rn),
-        _ => float(name, rd, rn),
+fn three(name: &[u8], a: u64, b: u64, c: u64) -> Result<ArrayVec<u32, 4>, CallError> {
+    let rd = u32::try_from(a)?;
+    let rn = u32::try_from(b)?;
+    match name {
+        b"gen_add_imm" => Ok(a64::gen_add_imm(rd, rn, u32::try_from(c)?)?),
+        _ => single(test(name, rd, rn, c)),
     }
 }
 
-fn float(name: &[u8], d: u32, n: u32) -> Encoded {
-    match text::place(b"fmov_s_w fmov_w_s fcmp fcvtzs fcvtzu scvtf ucvtf", name) {
-        0 => a64::fmov_s_w(d, n),
-        1 => a64::fmov_w_s(d, n),
-        2 => a64::fcmp(d, n),
-        3 => a64::fcvtzs(d, n),
-        4 => a64::fcvtzu(d, n),
-        5 => a64::scvtf(d, n),
-        6 => a64::ucvtf(d, n),
-        _ => Encoded::Refused(UNKNOWN),
+fn test(name: &[u8], rt: u32, b: u32, c: u64) -> Result<u32, CallError> {
+    let word = match name {
+        b"tbz" => a64::tbz(rt, b, signed(c)),
+        b"tbnz" => a64::tbnz(rt, b, signed(c)),
+        b"cneg" => a64::cneg(rt, b, cond(c)?),
+        _ => return arith(name, rt, b, u32::try_from(c)?),
+    };
+    Ok(word?)
+}
+
+fn arith(name: &[u8], rd: u32, rn: u32, rm: u32) -> Result<u32, CallError> {
+    let word = match name {
+        b"add" => a64::add(rd, rn, rm),
+        b"add_x" => a64::add_x(rd, rn, rm),
+        b"sub" => a64::sub(rd, rn, rm),
+        b"subs" => a64::subs(rd, rn, rm),
+        b"sdiv" => a64::sdiv(rd, rn, rm),
+        b"udiv" => a64::udiv(rd, rn, rm),
+        b"lslv" => a64::lslv(rd, rn, rm),
+        b"lsrv" => a64::lsrv(rd, rn, rm),
+        b"asrv" => a64::asrv(rd, rn, rm),
+        b"lsrv_x" => a64::lsrv_x(rd, rn, rm),
+        b"mul" => a64::mul(rd, rn, rm),
+        b"umull" => a64::umull(rd, rn, rm),
+        b"smull" => a64::smull(rd, rn, rm),
+        _ => return logic(name, rd, rn, rm),
+    };
+    Ok(word?)
+}
+
+fn logic(name: &[u8], rd: u32, rn: u32, rm: u32) -> Result<u32, CallError> {
+    let word = match name {
+        b"and" => a64::and(rd, rn, rm),
+        b"orr" => a64::orr(rd, rn, rm),
+        b"orr_x" => a64::orr_x(rd, rn, rm),
+        b"eor" => a64::eor(rd, rn, rm),
+        b"bic" => a64::bic(rd, rn, rm),
+        b"ands" => a64::ands(rd, rn, rm),
+        b"tst_mask" => a64::tst_mask(rd, rn, rm),
+        _ => return immediate(name, rd, rn, rm),
+    };
+    Ok(word?)
+}
+
+fn immediate(name: &[u8], rd: u32, rn: u32, imm: u32) -> Result<u32, CallError> {
+    let word = match name {
+        b"add_imm" => a64::add_imm(rd, rn, imm),
+        b"sub_imm" => a64::sub_imm(rd, rn, imm),
+        b"subs_imm" => a64::subs_imm(rd, rn, imm),
+        b"add_imm_x" => a64::add_imm_x(rd, rn, imm),
+        b"lsl_imm" => a64::lsl_imm(rd, rn, imm),
+        b"lsr_imm" => a64::lsr_imm(rd, rn, imm),
+        b"asr_imm" => a64::asr_imm(rd, rn, imm),
+        b"lsr_imm_x" => a64::lsr_imm_x(rd, rn, imm),
+        b"asr_imm_x" => a64::asr_imm_x(rd, rn, imm),
+        b"lsl_imm_x" => a64::lsl_imm_x(rd, rn, imm),
+        _ => return wide(name, rd, rn, imm),
+    };
+    Ok(word?)
+}
+
+fn wide(name: &[u8], rd: u32, imm16: u32, shift: u32) -> Result<u32, CallError> {
+    let word = match name {
+        b"movz" => a64::movz(rd, imm16, shift),
+        b"movk" => a64::movk(rd, imm16, shift),
+        b"movn" => a64::movn(rd, imm16, shift),
+        b"movz_x" => a64::movz_x(rd, imm16, shift),
+        b"movk_x" => a64::movk_x(rd, imm16, shift),
+        _ => return memory(name, rd, imm16, shift),
+    };
+    Ok(word?)
+}
+
+fn memory(name: &[u8], rt: u32, rn: u32, off: u32) -> Result<u32, CallError> {
+    let word = match name {
+        b"ldr" => a64::ldr(rt, rn, off),
+        b"str" => a64::str(rt, rn, off),
+        b"ldrh" => a64::ldrh(rt, rn, off),
+        b"ldr_x" => a64::ldr_x(rt, rn, off),
+        b"str_x" => a64::str_x(rt, rn, off),
+        b"strb" => a64::strb(rt, rn, off),
+        _ => return indexed(name, rt, rn, off),
+    };
+    Ok(word?)
+}
+
+fn indexed(name: &[u8], rt: u32, rn: u32, wm: u32) -> Result<u32, CallError> {
+    let word = match name {
+        b"ldr_idx" => a64::ldr_idx(rt, rn, wm),
+        b"str_idx" => a64::str_idx(rt, rn, wm),
+        b"ldr_u" => a64::ldr_u(rt, rn, wm),
+        b"ldrh_u" => a64::ldrh_u(rt, rn, wm),
+        b"ldrb_u" => a64::ldrb_u(rt, rn, wm),
+        b"ldrsb_u" => a64::ldrsb_u(rt, rn, wm),
+        b"ldrsh_u" => a64::ldrsh_u(rt, rn, wm),
+        b"str_u" => a64::str_u(rt, rn, wm),
+        b"strh_u" => a64::strh_u(rt, rn, wm),
+        b"strb_u" => a64::strb_u(rt, rn, wm),
+        _ => return Err(CallError::Unknown),
+    };
+    Ok(word?)
+}
+
+fn four(name: &[u8], a: u64, b: u64, c: u64, d: u64) -> Result<ArrayVec<u32, 4>, CallError> {
+    let rd = u32::try_from(a)?;
+    let rn = u32::try_from(b)?;
+    let rm = u32::try_from(c)?;
+    match name {
+        b"add_imm32" => Ok(a64::add_imm32(rd, rn, rm, u32::try_from(d)?)?),
+        _ => single(pairs(name, rd, rn, rm, d)),
     }
 }
 
-fn three(name: &[u8], a: u64, b: u64, c: u64) -> Sequence {
-    if WORD <= a {
-        return Sequence::Refused(UNKNOWN);
-    }
-    if WORD <= b {
-        return Sequence::Refused(UNKNOWN);
-    }
-    match text::place(b"gen_add_imm", name) {
-        0 => gen_add_imm(low(a), low(b), c),
-        _ => single(test(name, low(a), low(b), c)),
-    }
+fn pairs(name: &[u8], rt1: u32, rt2: u32, rn: u32, off: u64) -> Result<u32, CallError> {
+    let word = match name {
+        b"stp_pre" => a64::stp_pre(rt1, rt2, rn, offset(off)),
+        b"stp" => a64::stp(rt1, rt2, rn, offset(off)),
+        b"ldp" => a64::ldp(rt1, rt2, rn, offset(off)),
+        b"ldp_post" => a64::ldp_post(rt1, rt2, rn, offset(off)),
+        _ => return shifted(name, rt1, rt2, rn, off),
+    };
+    Ok(word?)
 }
 
-fn gen_add_imm(dst: u32, src: u32, imm: u64) -> Sequence {
-    if WORD <= imm {
-        return Sequence::Refused(UNKNOWN);
-    }
-    a64::gen_add_imm(dst, src, low(imm))
+fn shifted(name: &[u8], rd: u32, rn: u32, rm: u32, d: u64) -> Result<u32, CallError> {
+    let sh = u32::try_from(d)?;
+    let word = match name {
+        b"fop" => a64::fop(rd, rn, rm, sh),
+        b"add_lsl" => a64::add_lsl(rd, rn, rm, sh),
+        b"add_lsr" => a64::add_lsr(rd, rn, rm, sh),
+        b"add_x_lsl" => a64::add_x_lsl(rd, rn, rm, sh),
+        b"eor_lsr" => a64::eor_lsr(rd, rn, rm, sh),
+        b"sub_lsl" => a64::sub_lsl(rd, rn, rm, sh),
+        b"msub" => a64::msub(rd, rn, rm, sh),
+        b"orr_lsl" => a64::orr_lsl(rd, rn, rm, sh),
+        b"and_mask" => a64::and_mask(rd, rn, rm, sh),
+        b"ubfx" => a64::ubfx(rd, rn, rm, sh),
+        b"sbfx" => a64::sbfx(rd, rn, rm, sh),
+        _ => return select(name, rd, rn, rm, d),
+    };
+    Ok(word?)
 }
 
-fn test(name: &[u8], rt: u32, b: u32, c: u64) -> Encoded {
-    match text::place(b"tbz tbnz cneg", name) {
-        0 => a64::tbz(rt, b, text::signed(c)),
-        1 => a64::tbnz(rt, b, text::signed(c)),
-        2 => cneg(rt, b, c),
-        _ => arith(name, rt, b, c),
-    }
-}
-
-fn cneg(rd: u32, rn: u32, c: u64) -> Encoded {
-    if AL < c {
-        return Encoded::Refused(UNKNOWN);
-    }
-    a64::cneg(rd, rn, cond(c))
-}
-
-fn arith(name: &[u8], rd: u32, rn: u32, c: u64) -> Encoded {
-    if WORD <= c {
-        return Encoded::Refused(UNKNOWN);
-    }
-    let rm = low(c);
-    match text::place(
-        b"add add_x sub subs sdiv udiv lslv lsrv asrv lsrv_x mul umull smull",
-        name,
-    ) {
-        0 => a64::add(rd, rn, rm),
-        1 => a64::add_x(rd, rn, rm),
-        2 => a64::sub(rd, rn, rm),
-        3 => a64::subs(rd, rn, rm),
-        4 => a64::sdiv(rd, rn, rm),
-        5 => a64::udiv(rd, rn, rm),
-        6 => a64::lslv(rd, rn, rm),
-        7 => a64::lsrv(rd, rn, rm),
-        8 => a64::asrv(rd, rn, rm),
-        9 => a64::lsrv_x(rd, rn, rm),
-        10 => a64::mul(rd, rn, rm),
-        11 => a64::umull(rd, rn, rm),
-        12 => a64::smull(rd, rn, rm),
-        _ => logic(name, rd, rn, rm),
-    }
-}
-
-fn logic(name: &[u8], rd: u32, rn: u32, rm: u32) -> Encoded {
-    match text::place(b"and orr orr_x eor bic ands tst_mask", name) {
-        0 => a64::and(rd, rn, rm),
-        1 => a64::orr(rd, rn, rm),
-        2 => a64::orr_x(rd, rn, rm),
-        3 => a64::eor(rd, rn, rm),
-        4 => a64::bic(rd, rn, rm),
-        5 => a64::ands(rd, rn, rm),
-        6 => a64::tst_mask(rd, rn, rm),
-        _ => immediate(name, rd, rn, rm),
-    }
-}
-
-fn immediate(name: &[u8], rd: u32, rn: u32, imm: u32) -> Encoded {
-    match text::place(
-        b"add_imm sub_imm subs_imm add_imm_x lsl_imm lsr_imm asr_imm lsr_imm_x asr_imm_x lsl_imm_x",
-        name,
-    ) {
-        0 => a64::add_imm(rd, rn, imm),
-        1 => a64::sub_imm(rd, rn, imm),
-        2 => a64::subs_imm(rd, rn, imm),
-        3 => a64::add_imm_x(rd, rn, imm),
-        4 => a64::lsl_imm(rd, rn, imm),
-        5 => a64::lsr_imm(rd, rn, imm),
-        6 => a64::asr_imm(rd, rn, imm),
-        7 => a64::lsr_imm_x(rd, rn, imm),
-        8 => a64::asr_imm_x(rd, rn, imm),
-        9 => a64::lsl_imm_x(rd, rn, imm),
-        _ => wide(name, rd, rn, imm),
-    }
-}
-
-fn wide(name: &[u8], rd: u32, imm16: u32, shift: u32) -> Encoded {
-    match text::place(b"movz movk movn movz_x movk_x", name) {
-        0 => a64::movz(rd, imm16, shift),
-        1 => a64::movk(rd, imm16, shift),
-        2 => a64::movn(rd, imm16, shift),
-        3 => a64::movz_x(rd, imm16, shift),
-        4 => a64::movk_x(rd, imm16, shift),
-        _ => memory(name, rd, imm16, shift),
-    }
-}
-
-fn memory(name: &[u8], rt: u32, rn: u32, off: u32) -> Encoded {
-    match text::place(b"ldr str ldrh ldr_x str_x strb", name) {
-        0 => a64::ldr(rt, rn, off),
-        1 => a64::str(rt, rn, off),
-        2 => a64::ldrh(rt, rn, off),
-        3 => a64::ldr_x(rt, rn, off),
-        4 => a64::str_x(rt, rn, off),
-        5 => a64::strb(rt, rn, off),
-        _ => indexed(name, rt, rn, off),
-    }
-}
-
-fn indexed(name: &[u8], rt: u32, rn: u32, wm: u32) -> Encoded {
-    match text::place(
-        b"ldr_idx str_idx ldr_u ldrh_u ldrb_u ldrsb_u ldrsh_u str_u strh_u strb_u",
-        name,
-    ) {
-        0 => a64::ldr_idx(rt, rn, wm),
-        1 => a64::str_idx(rt, rn, wm),
-        2 => a64::ldr_u(rt, rn, wm),
-        3 => a64::ldrh_u(rt, rn, wm),
-        4 => a64::ldrb_u(rt, rn, wm),
-        5 => a64::ldrsb_u(rt, rn, wm),
-        6 => a64::ldrsh_u(rt, rn, wm),
-        7 => a64::str_u(rt, rn, wm),
-        8 => a64::strh_u(rt, rn, wm),
-        9 => a64::strb_u(rt, rn, wm),
-        _ => Encoded::Refused(UNKNOWN),
-    }
-}
-
-fn four(name: &[u8], a: u64, b: u64, c: u64, d: u64) -> Sequence {
-    if WORD <= a {
-        return Sequence::Refused(UNKNOWN);
-    }
-    if WORD <= b {
-        return Sequence::Refused(UNKNOWN);
-    }
-    if WORD <= c {
-        return Sequence::Refused(UNKNOWN);
-    }
-    match text::place(b"add_imm32", name) {
-        0 => add_imm32(low(a), low(b), low(c), d),
-        _ => single(pairs(name, low(a), low(b), low(c), d)),
-    }
-}
-
-fn add_imm32(rd: u32, rn: u32, imm: u32, scratch: u64) -> Sequence {
-    if WORD <= scratch {
-        return Sequence::Refused(UNKNOWN);
-    }
-    a64::add_imm32(rd, rn, imm, low(scratch))
-}
-
-fn pairs(name: &[u8], rt1: u32, rt2: u32, rn: u32, off: u64) -> Encoded {
-    match text::place(b"stp_pre stp ldp ldp_post", name) {
-        0 => a64::stp_pre(rt1, rt2, rn, offset(off)),
-        1 => a64::stp(rt1, rt2, rn, offset(off)),
-        2 => a64::ldp(rt1, rt2, rn, offset(off)),
-        3 => a64::ldp_post(rt1, rt2, rn, offset(off)),
-        _ => shifted(name, rt1, rt2, rn, off),
-    }
-}
-
-fn shifted(name: &[u8], rd: u32, rn: u32, rm: u32, d: u64) -> Encoded {
-    if WORD <= d {
-        return Encoded::Refused(UNKNOWN);
-    }
-    let sh = low(d);
-    match text::place(
-        b"fop add_lsl add_lsr add_x_lsl eor_lsr sub_lsl msub orr_lsl and_mask ubfx sbfx",
-        name,
-    ) {
-        0 => a64::fop(rd, rn, rm, sh),
-        1 => a64::add_lsl(rd, rn, rm, sh),
-        2 => a64::add_lsr(rd, rn, rm, sh),
-        3 => a64::add_x_lsl(rd, rn, rm, sh),
-        4 => a64::eor_lsr(rd, rn, rm, sh),
-        5 => a64::sub_lsl(rd, rn, rm, sh),
-        6 => a64::msub(rd, rn, rm, sh),
-        7 => a64::orr_lsl(rd, rn, rm, sh),
-        8 => a64::and_mask(rd, rn, rm, sh),
-        9 => a64::ubfx(rd, rn, rm, sh),
-        10 => a64::sbfx(rd, rn, rm, sh),
-        _ => select(name, rd, rn, rm, d),
-    }
-}
-
-fn select(name: &[u8], rd: u32, rn: u32, rm: u32, c: u64) -> Encoded {
-    if AL < c {
-        return Encoded::Refused(UNKNOWN);
-    }
-    match text::place(b"csel csinc csneg", name) {
-        0 => a64::csel(rd, rn, rm, cond(c)),
-        1 => a64::csinc(rd, rn, rm, cond(c)),
-        2 => a64::csneg(rd, rn, rm, cond(c)),
-        _ => Encoded::Refused(UNKNOWN),
-    }
+fn select(name: &[u8], rd: u32, rn: u32, rm: u32, c: u64) -> Result<u32, CallError> {
+    let c = cond(c)?;
+    let word = match name {
+        b"csel" => a64::csel(rd, rn, rm, c),
+        b"csinc" => a64::csinc(rd, rn, rm, c),
+        b"csneg" => a64::csneg(rd, rn, rm, c),
+        _ => return Err(CallError::Unknown),
+    };
+    Ok(word?)
 }

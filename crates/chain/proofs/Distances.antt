@@ -12,7 +12,8 @@ use mir.Val.{SFits, to_z, of_z}
 use mir.Facts.{to_z-of_z}
 use Rattle.arm.specs.declared.Instr.TheVariants.{Branch}
 use Rattle.arm.specs.Instr.{encode}
-use Rattle.words.specs.declared.Encoded.TheVariants.{Refused}
+use Rattle.std.specs.Prelude.{Err}
+use Rattle.words.specs.declared.EncodeError.TheVariants.{Reach, Unaligned}
 use Rattle.words.specs.Answers.{answer, Told, accepted, told}
 use Rattle.words.specs.Signed.{reaches, twos}
 use Rattle.chain.specs.Link.{distance, linked}
@@ -94,11 +95,11 @@ module _ (site body : ℤ) (s : SFits w64 site) (b : SFits w64 body) where
   words-held p q = to_z-of_z difference-fits ∙ quarters_are ∙ words_are site body p q
 
 -- the four answers
-pub site-unaligned : (site body : ℤ) (n : ℕ) → n ≡ twos 2 site → (n ≡ 0 → ⊥) → told (Refused 12) ≡ told (linked site body)
+pub site-unaligned : (site body : ℤ) (n : ℕ) → n ≡ twos 2 site → (n ≡ 0 → ⊥) → told (Err Unaligned) ≡ told (linked site body)
 unfolding linked
 site-unaligned site body n e h = simp (ne_eqb (twos 2 site) 0 (λ z. h (e ∙ z)))
 
-pub body-unaligned : (site body : ℤ) (n : ℕ) → twos 2 site ≡ 0 → n ≡ twos 2 body → (n ≡ 0 → ⊥) → told (Refused 12) ≡ told (linked site body)
+pub body-unaligned : (site body : ℤ) (n : ℕ) → twos 2 site ≡ 0 → n ≡ twos 2 body → (n ≡ 0 → ⊥) → told (Err Unaligned) ≡ told (linked site body)
 unfolding linked
 body-unaligned site body n a e h = simp (eq-eqb (twos 2 site) 0 a, ne_eqb (twos 2 body) 0 (λ z. h (e ∙ z)))
 
@@ -110,6 +111,6 @@ in_reach site body t n a c r h e k =
     (h ∙ ap told (carried-word (Branch n) ((k, tt), tt)) ∙ ap (λ (m : ℕ). accepted (encode (Branch m))) e)
 
 pub out_of_reach : (site body : ℤ) → twos 2 site ≡ 0 → twos 2 body ≡ 0 → false ≡ reaches (2 ^ 25) (distance site body)
-    → told (Refused 11) ≡ told (linked site body)
+    → told (Err Reach) ≡ told (linked site body)
 unfolding linked
 out_of_reach site body a c t = simp (eq-eqb (twos 2 site) 0 a, eq-eqb (twos 2 body) 0 c, sym t)

@@ -1,120 +1,101 @@
 // The encoders of jit_a64.rs and `Gen::add_imm` that write several words: constants, and sums with them.
 #![tactic(auto)]
 
-ghost use Rattle.std.specs.Prelude.{◌≡◌, ◌/◌, ◌%◌, ◌^◌, ◌<◌, [], ◌∷◌, nat_lt};
+ghost use Rattle.std.specs.Prelude.{◌≡◌, ◌+◌, ◌/◌, ◌%◌, ◌^◌, ◌<◌, ◌≤◌, [], ◌∷◌, ◌++◌, length, nat_lt, IfOk};
+ghost use Rattle.arrayvec.specs.ArrayVec.{array_vec_len};
 ghost use Rattle.arm.specs.declared.Instr.TheVariants.{Nop, LoadLiteral};
 ghost use Rattle.arm.specs.Instr.{encode};
 ghost use Rattle.arm.specs.Decode.{both};
 ghost use Rattle.constants.specs.Constants.{mov32_of, mov64_of, quarter_of, add_imm32_of, gen_add_imm_of, words_of};
-ghost use Rattle.constants.specs.Sequences.{told_words, words_if, pushed, after};
+ghost use Rattle.constants.specs.Sequences.{told_words, words_if};
 
 use arm::{AddSub, Flags, Instr, Logic, Move, Second, Shift, Size};
-use words::word;
+use arrayvec::ArrayVec;
+use words::{EncodeError, below, word};
 
-// What an encoder of several words answers.
-#[derive(Clone, Copy)]
-pub enum Sequence {
-    Empty,
-    One(u32),
-    Two(u32, u32),
-    Three(u32, u32, u32),
-    Four(u32, u32, u32, u32),
-    Refused(u32),
+// These words, in order.
+fn sequence(words: &[u32]) -> ArrayVec<u32, 4>
+    requires { length words.now ≤ 4 }
+    ensures { result.items ≡ words.now }
+{
+    let mut sequence = ArrayVec::new();
+    sequence.try_extend_from_slice(words).unwrap();
+    sequence
 }
 
-fn push(s: Sequence, w: u32) -> Sequence
-    ensures { result ≡ pushed s w }
+pub fn mov32(rd: u32, imm: u32) -> Result<ArrayVec<u32, 4>, EncodeError>
+    ensures room { IfOk result (λ words. array_vec_len words < 4) }
+    ensures words { told_words result ≡ words_if (nat_lt rd 32) (words_of (mov32_of rd imm)) }
 {
-    match s {
-        Sequence::Empty => Sequence::One(w),
-        Sequence::One(a) => Sequence::Two(a, w),
-        Sequence::Two(a, b) => Sequence::Three(a, b, w),
-        Sequence::Three(a, b, c) => Sequence::Four(a, b, c, w),
-        Sequence::Four(a, b, c, d) => Sequence::Four(a, b, c, d),
-        Sequence::Refused(n) => Sequence::Refused(n),
-    }
-}
-
-pub fn mov32(rd: u32, imm: u32) -> Sequence
-    ensures { told_words result ≡ words_if (nat_lt rd 32) (words_of (mov32_of rd imm)) }
-{
-    if 31 < rd {
-        return Sequence::Refused(13);
-    }
+    below(rd, 32)?;
     let high = imm / 65536;
     let low = imm % 65536;
     if high == 0 {
-        return Sequence::One(word(Instr::MoveWide(Size::W, Move::Movz, 0, low, rd)));
+        return Ok(sequence(&[word(Instr::MoveWide(Size::W, Move::Movz, 0, low, rd))]));
     }
     if low == 0 {
-        return Sequence::One(word(Instr::MoveWide(Size::W, Move::Movz, 1, high, rd)));
+        return Ok(sequence(&[word(Instr::MoveWide(Size::W, Move::Movz, 1, high, rd))]));
     }
     if high == 65535 {
-        return Sequence::One(word(Instr::MoveWide(Size::W, Move::Movn, 0, 65535 - low, rd)));
+        return Ok(sequence(&[word(Instr::MoveWide(Size::W, Move::Movn, 0, 65535 - low, rd))]));
     }
     let first = word(Instr::MoveWide(Size::W, Move::Movz, 0, low, rd));
-    Sequence::Two(
+    Ok(sequence(&[
         first,
         word(Instr::MoveWide(Size::W, Move::Movk, 1, high, rd)),
-    )
+    ]))
 }
 
 // One quarter of a 64-bit number, behind the words before it.
-fn push_quarter(s: Sequence, rd: u32, hw: u32, part: u32) -> Sequence
-    requires { (rd < 32) × (hw < 4) × (part < 65536) }
-    ensures { result ≡ after s (words_of (quarter_of rd hw part)) }
+fn push_quarter(words: &mut ArrayVec<u32, 4>, rd: u32, hw: u32, part: u32)
+    requires { (rd < 32) × (hw < 4) × (part < 65536) × (array_vec_len words.old < 4) }
+    ensures items { words.new.items ≡ words.old.items ++ words_of (quarter_of rd hw part) }
+    ensures len { array_vec_len words.new ≤ array_vec_len words.old + 1 }
 {
-    if part == 0 {
-        return s;
+    if part != 0 {
+        words.push(word(Instr::MoveWide(Size::X, Move::Movk, hw, part, rd)));
     }
-    push(s, word(Instr::MoveWide(Size::X, Move::Movk, hw, part, rd)))
 }
 
-pub fn mov64(rd: u32, imm: u64) -> Sequence
+pub fn mov64(rd: u32, imm: u64) -> Result<ArrayVec<u32, 4>, EncodeError>
     ensures { told_words result ≡ words_if (nat_lt rd 32) (words_of (mov64_of rd imm)) }
 {
-    if 31 < rd {
-        return Sequence::Refused(13);
-    }
-    let s = Sequence::One(word(Instr::MoveWide(Size::X, Move::Movz, 0, (imm % 65536) as u32, rd)));
-    let s1 = push_quarter(s, rd, 1, (imm / 0x1_0000 % 65536) as u32);
-    let s2 = push_quarter(s1, rd, 2, (imm / 0x1_0000_0000 % 65536) as u32);
-    push_quarter(s2, rd, 3, (imm / 0x1_0000_0000_0000 % 65536) as u32)
+    below(rd, 32)?;
+    let mut words = ArrayVec::new();
+    words.push(word(Instr::MoveWide(Size::X, Move::Movz, 0, (imm % 65536) as u32, rd)));
+    push_quarter(&mut words, rd, 1, (imm / 0x1_0000 % 65536) as u32);
+    push_quarter(&mut words, rd, 2, (imm / 0x1_0000_0000 % 65536) as u32);
+    push_quarter(&mut words, rd, 3, (imm / 0x1_0000_0000_0000 % 65536) as u32);
+    Ok(words)
 }
 
-pub fn add_imm32(rd: u32, rn: u32, imm: u32, scratch: u32) -> Sequence
+pub fn add_imm32(rd: u32, rn: u32, imm: u32, scratch: u32) -> Result<ArrayVec<u32, 4>, EncodeError>
     ensures { told_words result ≡ words_if (both (nat_lt rd 32) (both (nat_lt rn 32) (nat_lt scratch 32)))
         (words_of (add_imm32_of rd rn imm scratch)) }
 {
-    if 31 < rd {
-        return Sequence::Refused(13);
-    }
-    if 31 < rn {
-        return Sequence::Refused(13);
-    }
-    if 31 < scratch {
-        return Sequence::Refused(13);
-    }
+    below(rd, 32)?;
+    below(rn, 32)?;
+    below(scratch, 32)?;
     if imm < 4096 {
-        return Sequence::One(word(Instr::AddSubImm(
+        return Ok(sequence(&[word(Instr::AddSubImm(
             Size::W,
             AddSub::Add,
             Flags::Keeps,
             imm,
             rn,
             rd,
-        )));
+        ))]));
     }
     let negative = std::num::wrapping_sub_u32(0, imm);
     if negative < 4096 {
-        return Sequence::One(word(Instr::AddSubImm(
+        return Ok(sequence(&[word(Instr::AddSubImm(
             Size::W,
             AddSub::Sub,
             Flags::Keeps,
             negative,
             rn,
             rd,
-        )));
+        ))]));
     }
     let add = word(Instr::AddSubShifted(
         Size::W,
@@ -126,24 +107,22 @@ pub fn add_imm32(rd: u32, rn: u32, imm: u32, scratch: u32) -> Sequence
         rn,
         rd,
     ));
-    push(mov32(scratch, imm), add)
+    let mut words = mov32(scratch, imm)?;
+    words.push(add);
+    Ok(words)
 }
 
 // `Gen::add_imm` of jit.rs.
-pub fn gen_add_imm(dst: u32, src: u32, imm: u32) -> Sequence
+pub fn gen_add_imm(dst: u32, src: u32, imm: u32) -> Result<ArrayVec<u32, 4>, EncodeError>
     ensures { told_words result ≡ words_if (both (nat_lt dst 32) (nat_lt src 32)) (words_of (gen_add_imm_of dst src imm)) }
 {
-    if 31 < dst {
-        return Sequence::Refused(13);
-    }
-    if 31 < src {
-        return Sequence::Refused(13);
-    }
+    below(dst, 32)?;
+    below(src, 32)?;
     if imm == 0 {
         if dst == src {
-            return Sequence::Empty;
+            return Ok(sequence(&[]));
         }
-        return Sequence::One(word(Instr::LogicalShifted(
+        return Ok(sequence(&[word(Instr::LogicalShifted(
             Size::W,
             Logic::Orr,
             Second::Plain,
@@ -152,24 +131,22 @@ pub fn gen_add_imm(dst: u32, src: u32, imm: u32) -> Sequence
             0,
             31,
             dst,
-        )));
+        ))]));
     }
     add_imm32(dst, src, imm, 9)
 }
 
 // A load from the pool as a code of its own: the load, a nop, and the number, low word first.
-pub fn ldr_lit_x(rd: u32, imm: u64) -> Sequence
+pub fn ldr_lit_x(rd: u32, imm: u64) -> Result<ArrayVec<u32, 4>, EncodeError>
     ensures { told_words result ≡ words_if (nat_lt rd 32) (encode (LoadLiteral 2 rd) ∷ encode Nop ∷ imm % 2 ^ 32 ∷ imm / 2 ^ 32 ∷ []) }
 {
-    if 31 < rd {
-        return Sequence::Refused(13);
-    }
+    below(rd, 32)?;
     let load = word(Instr::LoadLiteral(2, rd));
     let nop = word(Instr::Nop);
-    Sequence::Four(
+    Ok(sequence(&[
         load,
         nop,
         (imm % 0x1_0000_0000) as u32,
         (imm / 0x1_0000_0000) as u32,
-    )
+    ]))
 }

@@ -1,10 +1,10 @@
 // A line of the input and its answer.
 use arrayvec::ArrayVec;
-use calls::Numbers;
-use constants::Sequence;
+use calls::CallError;
 use std::io;
 use std::io::Write;
 use text::{Buffer, Words};
+use words::EncodeError;
 
 // The words of a line behind its name, as numbers; none where one is no number, or there are more than four.
 fn numbers(words: Words) -> Option<ArrayVec<u64, 4>> {
@@ -16,41 +16,33 @@ fn numbers(words: Words) -> Option<ArrayVec<u64, 4>> {
 }
 
 // What a line calls: a name and its numbers.
-fn called(line: &[u8]) -> Sequence {
+fn called(line: &[u8]) -> Result<ArrayVec<u32, 4>, CallError> {
     let mut words = Words(line);
-    let (Some(name), Some(n)) = (words.next(), numbers(words)) else {
-        return Sequence::Refused(calls::UNKNOWN);
-    };
-    let mut values = [0u64; 4];
-    values[..n.len()].copy_from_slice(n.as_slice());
-    calls::call(
-        name,
-        Numbers {
-            count: n.len(),
-            values,
-        },
-    )
+    let name = words.next().ok_or(CallError::Unknown)?;
+    let numbers = numbers(words).ok_or(CallError::Unknown)?;
+    calls::call(name, numbers.as_slice())
 }
 
-fn put_refused(out: &mut Buffer, n: u32) {
-    if n == calls::UNKNOWN {
-        out.put(b"unknown\n");
-        return;
-    }
+fn put_refused(out: &mut Buffer, e: EncodeError) {
     out.put(b"refused ");
-    out.put_decimal(n as u64);
+    out.put_decimal(u64::from(u32::from(e)));
     out.put(b" 0\n");
 }
 
+fn put_words(out: &mut Buffer, words: &[u32]) {
+    if words.is_empty() {
+        out.put(b"\n");
+    } else {
+        out.put_rows(words);
+    }
+}
+
 // Puts the line that answers a call.
-fn put_answer(out: &mut Buffer, s: Sequence) {
-    match s {
-        Sequence::Empty => out.put(b"\n"),
-        Sequence::One(a) => out.put_rows(&[a]),
-        Sequence::Two(a, b) => out.put_rows(&[a, b]),
-        Sequence::Three(a, b, c) => out.put_rows(&[a, b, c]),
-        Sequence::Four(a, b, c, d) => out.put_rows(&[a, b, c, d]),
-        Sequence::Refused(n) => put_refused(out, n),
+fn put_answer(out: &mut Buffer, answer: Result<ArrayVec<u32, 4>, CallError>) {
+    match answer {
+        Ok(words) => put_words(out, words.as_slice()),
+        Err(CallError::Unknown) => out.put(b"unknown\n"),
+        Err(CallError::Refused(e)) => put_refused(out, e),
     }
 }
 
@@ -58,9 +50,6 @@ fn put_answer(out: &mut Buffer, s: Sequence) {
 pub fn answer<W: Write>(to: &mut W, line: Option<&[u8]>) -> io::Result<()> {
     let mut room = [0u8; 64];
     let mut out = Buffer::new(&mut room);
-    put_answer(
-        &mut out,
-        line.map_or(Sequence::Refused(calls::UNKNOWN), called),
-    );
+    put_answer(&mut out, line.map_or(Err(CallError::Unknown), called));
     to.write_all(out.written())
 }

@@ -8,51 +8,51 @@ ghost use Rattle.words.specs.Answers.{answer, told};
 ghost use Rattle.floats.specs.Fop.{fop_of};
 
 use arm::{Convert, Float, Instr};
-use words::{Encoded, encode};
+use words::{EncodeError, encode};
 
-pub fn fmov_s_w(sd: u32, wn: u32) -> Encoded
+pub fn fmov_s_w(sd: u32, wn: u32) -> Result<u32, EncodeError>
     ensures { told result ≡ told (answer (FloatConvert FmovSW wn sd)) }
 {
     encode(Instr::FloatConvert(Convert::FmovSW, wn, sd))
 }
 
-pub fn fmov_w_s(wd: u32, sn: u32) -> Encoded
+pub fn fmov_w_s(wd: u32, sn: u32) -> Result<u32, EncodeError>
     ensures { told result ≡ told (answer (FloatConvert FmovWS sn wd)) }
 {
     encode(Instr::FloatConvert(Convert::FmovWS, sn, wd))
 }
 
-pub fn fcmp(sn: u32, sm: u32) -> Encoded
+pub fn fcmp(sn: u32, sm: u32) -> Result<u32, EncodeError>
     ensures { told result ≡ told (answer (FloatCompare sm sn)) }
 {
     encode(Instr::FloatCompare(sm, sn))
 }
 
-pub fn fcvtzs(wd: u32, sn: u32) -> Encoded
+pub fn fcvtzs(wd: u32, sn: u32) -> Result<u32, EncodeError>
     ensures { told result ≡ told (answer (FloatConvert Fcvtzs sn wd)) }
 {
     encode(Instr::FloatConvert(Convert::Fcvtzs, sn, wd))
 }
 
-pub fn fcvtzu(wd: u32, sn: u32) -> Encoded
+pub fn fcvtzu(wd: u32, sn: u32) -> Result<u32, EncodeError>
     ensures { told result ≡ told (answer (FloatConvert Fcvtzu sn wd)) }
 {
     encode(Instr::FloatConvert(Convert::Fcvtzu, sn, wd))
 }
 
-pub fn scvtf(sd: u32, wn: u32) -> Encoded
+pub fn scvtf(sd: u32, wn: u32) -> Result<u32, EncodeError>
     ensures { told result ≡ told (answer (FloatConvert Scvtf wn sd)) }
 {
     encode(Instr::FloatConvert(Convert::Scvtf, wn, sd))
 }
 
-pub fn ucvtf(sd: u32, wn: u32) -> Encoded
+pub fn ucvtf(sd: u32, wn: u32) -> Result<u32, EncodeError>
     ensures { told result ≡ told (answer (FloatConvert Ucvtf wn sd)) }
 {
     encode(Instr::FloatConvert(Convert::Ucvtf, wn, sd))
 }
 
-pub fn fop(opc: u32, sd: u32, sn: u32, sm: u32) -> Encoded
+pub fn fop(opc: u32, sd: u32, sn: u32, sm: u32) -> Result<u32, EncodeError>
     ensures { told result ≡ told (fop_of opc sd sn sm) }
 {
     if opc == 0x1e20_2800 {
@@ -73,5 +73,5 @@ pub fn fop(opc: u32, sd: u32, sn: u32, sm: u32) -> Encoded
     if opc == 0x1e20_6800 {
         return encode(Instr::FloatTwo(Float::Fmaxnm, sm, sn, sd));
     }
-    Encoded::Refused(13)
+    Err(EncodeError::Operand)
 }

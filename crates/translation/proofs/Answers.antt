@@ -6,9 +6,12 @@ use Prim.Native.Nat.{ℕ}
 use native.Mathlib.Omega.{arith}
 use lib.Dec.{ltb}
 use lib.ListN.{length}
-use Rattle.record.specs.declared.Answer.TheVariants.{Accepted as NoFault, Refused as Fault}
-use Rattle.record.specs.declared.Reading.{Reading}
-use Rattle.record.specs.Record.{reading}
+use Rattle.std.specs.Prelude.{Result, Ok, Err}
+use Rattle.arrayvec.specs.ArrayVec.{ArrayVec}
+use Rattle.block.specs.declared.Block.{Block}
+use Rattle.faults.specs.declared.Fault.TheVariants.{Room}
+use Rattle.faults.specs.declared.Refusal.{Refusal}
+use Rattle.record.specs.Record.{reading, found}
 use Rattle.record.proofs.Accepted.{Bytes}
 use Rattle.code.specs.Items.{pick}
 use Rattle.lowering.specs.Fragments.{opening}
@@ -20,16 +23,15 @@ use Rattle.finish.specs.Finish.{zeros}
 use Rattle.finish.specs.Whole.{laid, told as told_by}
 use Rattle.answers.specs.Translation.{accepted, block_told, told_behind, laid_behind, translation, lent_after}
 use Rattle.answers.proofs.Promises.{Promised, promised}
-use Rattle.translation.specs.declared.Sites.{Sites}
-use Rattle.translation.specs.declared.Translated.{Translated}
-use Rattle.translation.specs.declared.Translated.TheVariants.{Accepted, Refused}
+use Rattle.lowering.specs.declared.Site.{Site}
+use Rattle.translation.specs.declared.Translation.{Translation}
 use Rattle.translation.specs.Told.{listed, told}
 
 -- ---- the contract, from its first two clauses
-abbrev pub Met : (bytes lent ws : List ℕ) → Translated → Type 0
+abbrev pub Met : (bytes lent ws : List ℕ) → Result Translation Refusal → Type 0
 Met bytes lent ws r = (told r ≡ translation bytes lent) × ((ws ≡ lent_after bytes lent) × Promised bytes ws (told r))
 
-met : (bytes lent ws : List ℕ) (r : Translated) → Bytes bytes → told r ≡ translation bytes lent → ws ≡ lent_after bytes lent
+met : (bytes lent ws : List ℕ) (r : Result Translation Refusal) → Bytes bytes → told r ≡ translation bytes lent → ws ≡ lent_after bytes lent
     → Met bytes lent ws r
 met bytes lent ws r are e q = (e, (q, promised bytes lent ws (told r) are e q))
 
@@ -46,40 +48,34 @@ body_is : 52 ≡ body_offset
 unfolding body_offset opening
 body_is = refl
 
-module _ (bytes lent ws : List ℕ) (x : Reading) (are : Bytes bytes) (read : x ≡ reading bytes) where
+module _ (bytes lent ws : List ℕ) (are : Bytes bytes) where
   -- a fault of reading
-  pub met_fault : (number place : ℕ) → x.answer ≡ Fault number place → ws ≡ zeros lent → Met bytes lent ws (Refused number place)
+  pub met_fault : (r : Refusal) → found (Err r) ≡ reading bytes → ws ≡ zeros lent → Met bytes lent ws (Err r)
   unfolding translation lent_after told_behind laid_behind
-  met_fault number place e q =
-      let f : (reading bytes).answer ≡ Fault number place = ap (λ (y : Reading). y.answer) (sym read) ∙ e in
-      met bytes lent ws (Refused number place) are (rw f) (rw f q)
+  met_fault r read q = met bytes lent ws (Err r) are (rw (← read)) (rw (← read) q)
 
-  module _ (e : x.answer ≡ NoFault) (fin : Finished) (fin-is : fin ≡ told_by (block_words x.block) lent)
-      (q : ws ≡ laid (block_words x.block) lent) where
-    f : (reading bytes).answer ≡ NoFault
-    f = ap (λ (y : Reading). y.answer) (sym read) ∙ e
-
-    b_is : x.block ≡ (reading bytes).block
-    b_is = ap (λ (y : Reading). y.block) read
-
+  module _ (b : Block) (read : found (Ok b) ≡ reading bytes) (fin : Finished) (fin-is : fin ≡ told_by (block_words b) lent)
+      (q : ws ≡ laid (block_words b) lent) where
     words_are : ws ≡ lent_after bytes lent
     unfolding lent_after laid_behind
-    words_are = rw f (q ∙ ap (λ b. laid (block_words b) lent) b_is)
+    words_are = rw (← read) q
 
     -- too few words
-    pub met_short : (n : ℕ) → fin ≡ TooFew n → Met bytes lent ws (Refused 10 (length bytes))
+    pub met_short : (n : ℕ) → fin ≡ TooFew n
+        → Met bytes lent ws (Err (record { fault = Room; place = length bytes }))
     unfolding translation told_behind block_told told_by
     met_short n g =
-        let m = length (block_words x.block) in
+        let m = length (block_words b) in
         let t : ltb (length lent) m ≡ true = few_only (ltb (length lent) m) m n (sym g ∙ fin-is) in
-        met bytes lent ws (Refused 10 (length bytes)) are (rw (f, ← b_is, t)) words_are
+        met bytes lent ws (Err (record { fault = Room; place = length bytes })) are (rw (← read, t)) words_are
 
     -- a block in the lent room
-    pub met_words : (n : ℕ) (ss : Sites) → fin ≡ Words n
-        → listed ss ≡ zip_sites (starts (block_code x.block) 0) (targets (block_steps x.block)) → Met bytes lent ws (Accepted n 52 ss)
+    pub met_words : (n : ℕ) (ss : ArrayVec Site) → fin ≡ Words n
+        → listed ss ≡ zip_sites (starts (block_code b) 0) (targets (block_steps b))
+        → Met bytes lent ws (Ok (record { words = n; body = 52; sites = ss }))
     unfolding translation told_behind block_told told_by sites
     met_words n ss g h =
-        let m = length (block_words x.block) in
+        let m = length (block_words b) in
         let t = words_only (ltb (length lent) m) m n (sym g ∙ fin-is) in
-        let a = ap₂ (λ k l. accepted k 52 l) t.1 h ∙ ap (λ o. accepted m o (sites x.block)) body_is in
-        met bytes lent ws (Accepted n 52 ss) are (rw (f, ← b_is, t.0) a) words_are
+        let a = ap₂ (λ k l. accepted k 52 l) t.1 h ∙ ap (λ o. accepted m o (sites b)) body_is in
+        met bytes lent ws (Ok (record { words = n; body = 52; sites = ss })) are (rw (← read, t.0) a) words_are

@@ -2,9 +2,10 @@
 use mathlib.Core.Path.{◌≡◌, sym, ap, subst, ◌∙◌}
 use mathlib.Core.List.{List}
 use Prim.Native.Nat.{ℕ}
-use Rattle.record.specs.declared.Answer.TheVariants.{Accepted as NoFault, Refused as Fault}
-use Rattle.record.specs.declared.Reading.{Reading}
-use Rattle.record.specs.Record.{reading}
+use Rattle.std.specs.Prelude.{Result, Ok, Err, IsErrAnd}
+use Rattle.block.specs.declared.Block.{Block}
+use Rattle.faults.specs.declared.Refusal.{Refusal}
+use Rattle.record.specs.Record.{reading, found}
 use Rattle.record.proofs.Accepted.{Bytes}
 use Rattle.lowering.specs.Compile.{block_words}
 use Rattle.finish.specs.declared.Finished.{Finished}
@@ -12,26 +13,26 @@ use Rattle.finish.specs.Whole.{told, count_of}
 use Rattle.finish.proofs.Join.{count-told}
 use Rattle.answers.specs.WordsNeeded.{takes, need_behind, words_needed, Exact, Included}
 use Rattle.answers.proofs.WordsNeeded.{exact, included}
-use Rattle.translation.specs.declared.Needed.{Needed}
 use Rattle.translation.specs.Told.{need_told}
 
 -- ---- the contract, from its first clause
-abbrev pub Figured : (bytes : List ℕ) → Needed → Type 0
+abbrev pub Figured : (bytes : List ℕ) → Result ℕ Refusal → Type 0
 Figured bytes r = (need_told r ≡ words_needed bytes) × (Exact (need_told r) bytes × Included (need_told r) bytes)
 
-figured : (bytes : List ℕ) (r : Needed) → Bytes bytes → need_told r ≡ words_needed bytes → Figured bytes r
+figured : (bytes : List ℕ) (r : Result ℕ Refusal) → Bytes bytes → need_told r ≡ words_needed bytes → Figured bytes r
 figured bytes r are e = (e, subst (λ n. Exact n bytes × Included n bytes) (sym e) (exact bytes, included bytes are))
 
 -- ---- the ends of `words_needed`
-module _ (bytes : List ℕ) (q : Reading) (are : Bytes bytes) (read : q ≡ reading bytes) where
-  -- a fault of reading
-  pub figured-fault : (number place : ℕ) → q.answer ≡ Fault number place → Figured bytes (Needed.Refused number place)
+module _ (bytes : List ℕ) (are : Bytes bytes) where
+  -- a fault of reading, handed on
+  pub figured-fault : (q : Refusal) (r : Result ℕ Refusal) → found (Err q) ≡ reading bytes → IsErrAnd r (λ e. e ≡ q) → Figured bytes r
   unfolding words_needed need_behind
-  figured-fault number place e = figured bytes (Needed.Refused number place) are (rw (← read, e))
+  figured-fault q (Ok n) read h = absurd h
+  figured-fault q (Err e) read h = figured bytes (Err e) are (rw (h, ← read))
 
   -- a block, counted whatever is lent
-  pub figured-words : (lent : List ℕ) (fin : Finished) (n : ℕ)
-      → q.answer ≡ NoFault → fin ≡ told (block_words q.block) lent → n ≡ count_of fin → Figured bytes (Needed.Words n)
+  pub figured-words : (b : Block) → found (Ok b) ≡ reading bytes
+      → (lent : List ℕ) (fin : Finished) (n : ℕ) → fin ≡ told (block_words b) lent → n ≡ count_of fin → Figured bytes (Ok n)
   unfolding words_needed need_behind
-  figured-words lent fin n e t k =
-      figured bytes (Needed.Words n) are (rw (← read, e) (ap takes (k ∙ ap count_of t ∙ count-told (block_words q.block) lent)))
+  figured-words b read lent fin n t k =
+      figured bytes (Ok n) are (rw (← read) (ap takes (k ∙ ap count_of t ∙ count-told (block_words b) lent)))

@@ -1,8 +1,8 @@
 -- AN ANSWER IN NUMBERS, as the host gets it.
-use Rattle.std.specs.Prelude.{List, [], ◌∷◌, ◌++◌, ℕ, ◌*◌, ◌^◌, length, take}
+use Rattle.std.specs.Prelude.{List, [], ◌∷◌, ◌++◌, ℕ, Result, Ok, Err, ◌*◌, ◌^◌, length, take}
 use Rattle.lowering.specs.declared.Site.{Site}
-use Rattle.words.specs.declared.Encoded.{Encoded}
-use Rattle.words.specs.declared.Encoded.TheVariants.{Word, Refused}
+use Rattle.words.specs.declared.EncodeError.{EncodeError}
+use Rattle.words.specs.Answers.{number}
 use Rattle.answers.specs.Translation.{Told, accepted, refused}
 use Rattle.answers.specs.WordsNeeded.{Need, takes, refused_with}
 
@@ -32,6 +32,6 @@ need_cells (takes words) = 0 ∷ words ∷ []
 need_cells (refused_with number place) = place ∷ 0 ∷ []
 
 -- a link's word, or the fault's number above 32 bits of 0
-abbrev pub link_answer : Encoded → ℕ
-link_answer (Word word) = word
-link_answer (Refused number) = number * 2 ^ 32
+abbrev pub link_answer : Result ℕ EncodeError → ℕ
+link_answer (Ok word) = word
+link_answer (Err e) = number e * 2 ^ 32

@@ -12,7 +12,6 @@ ghost use Rattle.translation.specs.Told.{listed, told, need_told};
 ghost use Rattle.werfund.specs.Answers.{number_of, cells_of, need_number, need_cells, link_answer};
 
 use translation::{Needed, Sites, Translated};
-use words::Encoded;
 
 // Place, words, body offset, sites, and two sites.
 const CELLS: usize = 8;
@@ -150,7 +149,7 @@ pub extern "C" fn werfund_link(site: i64, body: i64) -> u64
     ensures { result ≡ link_answer (linked site body) }
 {
     match chain::link(site, body) {
-        Encoded::Word(word) => wide(word),
-        Encoded::Refused(number) => wide(number) << 32,
+        Ok(word) => wide(word),
+        Err(e) => wide(u32::from(e)) << 32,
     }
 }

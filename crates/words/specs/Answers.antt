@@ -1,21 +1,27 @@
 -- What an encoder answers: the word of an instruction, or document 01's fault 13.
-use Rattle.std.specs.Prelude.{ℕ, ◌≡◌, Bool, true, false}
+use Rattle.std.specs.Prelude.{ℕ, ◌≡◌, Bool, true, false, Result, Ok, Err}
 use Rattle.arm.specs.declared.Instr.{Instr}
 use Rattle.arm.specs.Instr.{encode, Carried}
 use Rattle.arm.specs.Decode.{carried, both}
-use Rattle.words.specs.declared.Encoded.{Encoded}
-use Rattle.words.specs.declared.Encoded.TheVariants.{Word, Refused}
+use Rattle.words.specs.declared.EncodeError.{EncodeError}
+use Rattle.words.specs.declared.EncodeError.TheVariants.{Reach, Unaligned, Operand}
 
-abbrev pub pick : Bool → Encoded → Encoded → Encoded
+abbrev pub pick : Bool → Result ℕ EncodeError → Result ℕ EncodeError → Result ℕ EncodeError
 pick true a b = a
 pick false a b = b
 
--- the word where the condition holds and each operand fits its field, and 13 elsewhere
-unfoldable pub answer_if : Bool → Instr → Encoded
-answer_if b i = pick (both b (carried i)) (Word (encode i)) (Refused 13)
+-- document 01's number of a fault
+abbrev pub number : EncodeError → ℕ
+number Reach = 11
+number Unaligned = 12
+number Operand = 13
 
-unfoldable pub answer : Instr → Encoded
-answer i = pick (carried i) (Word (encode i)) (Refused 13)
+-- the word where the condition holds and each operand fits its field, and fault 13 elsewhere
+unfoldable pub answer_if : Bool → Instr → Result ℕ EncodeError
+answer_if b i = pick (both b (carried i)) (Ok (encode i)) (Err Operand)
+
+unfoldable pub answer : Instr → Result ℕ EncodeError
+answer i = pick (carried i) (Ok (encode i)) (Err Operand)
 
 -- ---- an answer in document 01's numbers: its word or words, or a fault's number, place and word
 pub data Told (A : Type 0) : Type 0 where
@@ -23,16 +29,16 @@ pub data Told (A : Type 0) : Type 0 where
   refused : (number place : ℕ) → A → Told A
 
 -- "their refusals give place 0 and word 0"
-abbrev pub told : Encoded → Told ℕ
-told (Word w) = accepted w
-told (Refused n) = refused n 0 0
+abbrev pub told : Result ℕ EncodeError → Told ℕ
+told (Ok w) = accepted w
+told (Err e) = refused (number e) 0 0
 
 -- the word alone, and 0 where there is none
-abbrev pub word_of : Encoded → ℕ
-word_of (Word w) = w
-word_of (Refused n) = 0
+abbrev pub word_of : Result ℕ EncodeError → ℕ
+word_of (Ok w) = w
+word_of (Err e) = 0
 
 -- `answer` by cases: `Answers i r` holds of this one answer
-abbrev pub Answers : Instr → Encoded → Type 0
-Answers i (Word w) = Carried i × (w ≡ encode i)
-Answers i (Refused n) = (n ≡ 13) × (Carried i → ⊥)
+unfoldable pub Answers : Instr → Result ℕ EncodeError → Type 0
+Answers i (Ok w) = Carried i × (w ≡ encode i)
+Answers i (Err e) = (e ≡ Operand) × (Carried i → ⊥)

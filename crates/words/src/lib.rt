@@ -2,7 +2,7 @@
 #![tactic(auto)]
 
 ghost use Rattle.std.specs.Prelude.{◌≡◌};
-ghost use Rattle.words.specs.Answers.{answer, answer_if, told, word_of};
+ghost use Rattle.words.specs.Answers.{answer, answer_if, number, told, word_of};
 
 use arm::Instr;
 
@@ -11,21 +11,35 @@ mod numbers;
 mod signed;
 mod single;
 
+pub use classes::below;
 pub use signed::{reaches, twos};
 pub use single::{
     add_sub_imm, add_sub_shifted, bitfield, branch_reg, cond_select, logical_shifted, memory_imm,
     memory_pair, memory_reg, move_wide, one_source, three_source, two_source,
 };
 
-// What an encoder answers: the word, or the number of the fault.
-#[derive(Clone, Copy)]
-pub enum Encoded {
-    Word(u32),
-    Refused(u32),
+// Why an encoder or link refuses, by document 01's number of the fault.
+#[derive(Clone, Copy, Debug, PartialEq, Eq)]
+pub enum EncodeError {
+    // link: the distance is out of reach
+    Reach = 11,
+    // link: an address is not a multiple of 4
+    Unaligned = 12,
+    // an encoder: a register above 31, or a number that the instruction cannot carry
+    Operand = 13,
+}
+
+impl From<EncodeError> for u32 {
+    ghost from_gives = { λ e n. n ≡ number e };
+
+    fn from(e: EncodeError) -> u32 {
+        e as u32
+    }
 }
 
 // The instruction's word, where each operand fits its field.
-pub fn encode(i: Instr) -> Encoded
+#[tactic(auto, using(crate::proofs::Answers::answers_is))]
+pub fn encode(i: Instr) -> Result<u32, EncodeError>
     ensures { told result ≡ told (answer i) }
 {
     match i {
@@ -61,23 +75,21 @@ pub fn encode(i: Instr) -> Encoded
 }
 
 // The same under a condition that stands beside the fields.
-pub fn encode_if(ok: bool, i: Instr) -> Encoded
+#[tactic(auto, unfolding(crate::specs::Answers::answer, crate::specs::Answers::answer_if))]
+pub fn encode_if(ok: bool, i: Instr) -> Result<u32, EncodeError>
     ensures { told result ≡ told (answer_if ok i) }
 {
-    if ok {
-        return encode(i);
+    if !ok {
+        return Err(EncodeError::Operand);
     }
-    Encoded::Refused(13)
+    encode(i)
 }
 
 // The word alone, and 0 where there is none.
-fn word_of(e: Encoded) -> u32
+fn word_of(e: Result<u32, EncodeError>) -> u32
     ensures { result ≡ word_of e }
 {
-    match e {
-        Encoded::Word(w) => w,
-        Encoded::Refused(_) => 0,
-    }
+    e.unwrap_or(0)
 }
 
 pub fn word(i: Instr) -> u32

@@ -1,4 +1,6 @@
 // The word of an instruction by its class, and 0 where it is refused. No instruction is built, so that constant operands give a constant word.
+#![tactic(auto, using(crate::proofs::Answers::answers_is))]
+
 ghost use Rattle.std.specs.Prelude.{◌≡◌};
 ghost use Rattle.arm.specs.declared.Instr.TheVariants.{MoveWide, AddSubImm, AddSubShifted, LogicalShifted, Bitfield, OneSource, TwoSource, ThreeSource, CondSelect, MemoryImm, MemoryReg, MemoryPair, BranchReg};
 ghost use Rattle.words.specs.Answers.{answer, word_of};

@@ -5,27 +5,23 @@ use Rattle.lowering.specs.Compile.{zip_sites}
 use Rattle.translation.proofs.Answers.{met_fault, met_short, met_words}
 use Rattle.translation.proofs.translate.Goals as goal
 
-pub returns-in-Refused : goal.returns-in-Refused
-returns-in-Refused c =
-    let m =
-    met_fault c.args.bytes.now _ _ _ (λ i. omega (arith, c.type_inv.bytes i)) c.read-reading.ensures.is_reading
-    _ _ c.in-Refused.is c.zero.ensures in
+pub returns-in-Err : goal.returns-in-Err
+returns-in-Err c =
+    let m = met_fault c.args.bytes.now _ _ (λ i. omega (arith, c.type_inv.bytes i)) c.in-Err.refusal c.in-Err.ensures.is_reading c.zero.ensures in
     record { answer = m.0; words_after = m.1.0; sited = m.1.1.0; runs = m.1.1.1.0; meant = m.1.1.1.1 }
 
 pub returns-in-Words : goal.returns-in-Words
 returns-in-Words c =
-    let e = c.in-Accepted.is in
-    let k = c.compile-c.ensures (c.read-reading.ensures.checked e) in
+    let k = c.compile-c.ensures c.in-Ok.ensures.checked in
     let m =
-    met_words c.args.bytes.now _ _ _ (λ i. omega (arith, c.type_inv.bytes i)) c.read-reading.ensures.is_reading e _
+    met_words c.args.bytes.now _ _ (λ i. omega (arith, c.type_inv.bytes i)) c.in-Ok.block c.in-Ok.ensures.is_reading _
     k.0 k.1 _ c.listed_sites.result c.in-Words.is (c.listed_sites.ensures ∙ ap₂ zip_sites k.2 k.3) in
     record { answer = m.0; words_after = m.1.0; sited = m.1.1.0; runs = m.1.1.1.0; meant = m.1.1.1.1 }
 
 pub returns-in-Short : goal.returns-in-Short
 returns-in-Short c =
-    let e = c.in-Accepted.is in
-    let k = c.compile-c.ensures (c.read-reading.ensures.checked e) in
+    let k = c.compile-c.ensures c.in-Ok.ensures.checked in
     let m =
-    met_short c.args.bytes.now _ _ _ (λ i. omega (arith, c.type_inv.bytes i)) c.read-reading.ensures.is_reading e _
+    met_short c.args.bytes.now _ _ (λ i. omega (arith, c.type_inv.bytes i)) c.in-Ok.block c.in-Ok.ensures.is_reading _
     k.0 k.1 _ c.in-Short.is in
     record { answer = m.0; words_after = m.1.0; sited = m.1.1.0; runs = m.1.1.1.0; meant = m.1.1.1.1 }

@@ -9,7 +9,7 @@ returns-then-reaches c =
     let x = wide_is c.args.off c.ranges.off in
     pair_in c.args.off _ _ (c.reaches.ensures ∙ ap (reaches 512) x) c.if-reaches.true (c.twos.ensures.0 ∙ ap (twos 512) x)
 
-pub returns : goal.returns
-returns c =
+pub returns-else-reaches : goal.returns-else-reaches
+returns-else-reaches c =
     let x = wide_is c.args.off c.ranges.off in
     pair_out c.args.off _ (c.reaches.ensures ∙ ap (reaches 512) x) c.if-reaches.false

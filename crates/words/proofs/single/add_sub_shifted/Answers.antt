@@ -1,5 +1,0 @@
-use Rattle.words.proofs.Answers.{class-word}
-use Rattle.words.proofs.single.add_sub_shifted.Goals as goal
-
-pub returns : goal.returns
-returns c = search class-word
