@@ -83,6 +83,7 @@ fn any_unaligned(o: Layout) -> bool
         | ((o.sp % 4 != 0) | ((o.rets % 4 != 0) | ((o.pc % 4 != 0) | (o.hold % 4 != 0))))
 }
 
+// The pairs by name: no plainer by a loop over the places, which needs two indices and says less.
 fn overlap(o: Layout) -> bool
     ensures { result ≡ overlapping (spans o) }
 {

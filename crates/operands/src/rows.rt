@@ -1,4 +1,5 @@
-// The table of kinds, a row for each: how many operands it has and their ranges, and the operation made of them.
+// The table of kinds, a row for each: how many operands it has and their ranges, and the operation made of them. A kind is the record's own
+// number here, since `Fast` is what a row makes of it. Ranges stand in the row, not in a list to walk: that is a test each and no branch.
 ghost use Rattle.std.specs.Prelude.{◌≡◌, ◌<◌};
 ghost use Rattle.operands.specs.Kinds.{width, fits as fits_in, fast_of};
 ghost use Rattle.operands.specs.Rows.{shape_of};
@@ -47,12 +48,7 @@ pub fn shape_of(kind: u8, x: [u32; 6]) -> Shape
     requires { kind < 50 }
     ensures { result ≡ shape_of kind x }
 {
-    let x0 = x[0];
-    let x1 = x[1];
-    let x2 = x[2];
-    let x3 = x[3];
-    let x4 = x[4];
-    let x5 = x[5];
+    let [x0, x1, x2, x3, x4, x5] = x;
     match kind {
         0 => Shape {
             count: 0,
@@ -263,12 +259,7 @@ pub fn fast_of(kind: u8, x: [u32; 6]) -> Fast
     requires { kind < 50 }
     ensures { result ≡ fast_of kind x }
 {
-    let x0 = x[0];
-    let x1 = x[1];
-    let x2 = x[2];
-    let x3 = x[3];
-    let x4 = x[4];
-    let x5 = x[5];
+    let [x0, x1, x2, x3, x4, x5] = x;
     let r0 = (x0 % 256) as u8;
     let r1 = (x1 % 256) as u8;
     let r2 = (x2 % 256) as u8;

@@ -1,4 +1,5 @@
-// The operands that choose: a number to a case. A number above the cases is the last.
+// The operands that choose: a number to a case. A number above the cases is the last: functions, since a
+// `From` promises that nothing is lost, and a `TryFrom` would refuse what a record may hold.
 ghost use Rattle.std.specs.Prelude.{◌≡◌};
 ghost use Rattle.operands.specs.Kinds.{op_of, rmw_op_of, cond_of, base_of, amount_of, width_of, rk_of, part_of, choice_of, un_kind_of, div_kind_of};
 
@@ -56,10 +57,7 @@ pub fn cond_of(x: u32) -> Cond
 pub fn base_of(x: u32) -> Base
     ensures { result ≡ base_of x }
 {
-    if x < 16 {
-        return Base::Reg(low(x));
-    }
-    Base::Sp
+    if x < 16 { Base::Reg(low(x)) } else { Base::Sp }
 }
 
 // Above the registers i chooses the increment, whatever it is.
@@ -67,9 +65,10 @@ pub fn amount_of(i: u32, inc: u32) -> Amount
     ensures { result ≡ amount_of i inc }
 {
     if i < 16 {
-        return Amount::Reg(low(i));
+        Amount::Reg(low(i))
+    } else {
+        Amount::Inc(inc)
     }
-    Amount::Inc(inc)
 }
 
 pub fn width_of(x: u32) -> Width

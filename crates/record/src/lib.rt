@@ -36,7 +36,8 @@ fn header(s: &[u8]) -> Block
     }
 }
 
-// The operations from a byte on, up to the record's end.
+// The operations from a byte on, up to the record's end. No iterator of the library walks so: a field's own length says where the next one
+// starts, and its place is told where it has a fault.
 fn read_operations(s: &[u8], from: usize, block: &mut Block) -> Result<(), Refusal>
     requires { (from ≤ length s.now) × (block.old.n ≡ 0) × (length block.old.ops ≡ 32) }
     ensures { found_in result block.new ≡ operations_of 33 s.now from block.old }

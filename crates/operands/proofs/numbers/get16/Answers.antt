@@ -5,4 +5,4 @@ use Rattle.operands.proofs.numbers.get16.Goals as goal
 
 pub returns : goal.returns
 unfolding num16
-returns c = (cc, omega (arith, c.byte.type_inv, c.byte-2.type_inv))
+returns c = (omega (arith, c.from_le_bytes.ensures, c.byte.ensures, c.byte-2.ensures), omega (arith, c.from_le_bytes.type_inv))

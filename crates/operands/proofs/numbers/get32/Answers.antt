@@ -6,15 +6,15 @@ use native.Mathlib.Omega.{arith}
 use Rattle.operands.specs.Numbers.{byte_at, num16, num32}
 use Rattle.operands.proofs.numbers.get32.Goals as goal
 
-four : (s : List ℕ) (i : ℕ) {r : ℕ} → r ≡ byte_at s i + 256 * byte_at s (i + 1) + 65536 * (byte_at s (i + 2) + 256 * byte_at s (i + 3))
-    → r ≡ num32 s i
+four : (s : List ℕ) (i : ℕ) {r : ℕ}
+    → r ≡ byte_at s i + byte_at s (i + 1) * 256 + byte_at s (i + 2) * 65536 + byte_at s (i + 3) * 16777216 → r ≡ num32 s i
 unfolding num16 num32
-four s i e = let h : i + 2 + 1 ≡ i + 3 = omega arith in rw h e
+four s i e = let h : i + 2 + 1 ≡ i + 3 = omega arith in rw h (omega (arith, e))
 
 pub returns-then-i-s : goal.returns-then-i-s
 returns-then-i-s c =
     let a = c.args in
-    four a.s.now a.i c.joined.ensures
+    four a.s.now a.i c.from_le_bytes.ensures
 
 pub returns : goal.returns
 unfolding num32
