@@ -75,8 +75,7 @@ pub fn width_of(x: u32) -> Width
     ensures { result ≡ width_of x }
 {
     match x {
-        0 => Width::Byte,
-        1 => Width::Byte,
+        0 | 1 => Width::Byte,
         2 => Width::Half,
         _ => Width::Word,
     }
