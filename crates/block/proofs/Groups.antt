@@ -1,13 +1,12 @@
--- The registers of a group: each is one of sixteen, and there are at most sixteen; of a mask there are as many as it has ones, and the
--- lowest is as far up as it has trailing zeros.
-use mathlib.Core.Path.{◌≡◌, refl, sym, ap, ap₂, ◌∙◌}
+-- The registers of a group: each is one of sixteen, and there are at most sixteen; of a mask there are as many as it has ones.
+use mathlib.Core.Path.{◌≡◌, refl, sym, ap, ◌∙◌}
 use mathlib.Core.Bool.{Bool, true, false, cond}
 use mathlib.Core.List.{List, [], ◌∷◌, reverse, reverse_aux}
 use Prim.Native.Nat.{ℕ, zero, suc, ◌+◌, ◌-◌, ◌/◌, ◌%◌, ◌^◌, ◌<◌, ◌≤◌}
 use native.Mathlib.Nat.{mod-lt, pow-suc}
 use native.Mathlib.Omega.{arith}
-use borrow.Author.Tests.{ltb-true, ltb-false, eqb-true, eqb-false, eq-eqb, ne_eqb}
-use lib.Count.{ones, ones_step, count_trailing_zeros, under}
+use borrow.Author.Tests.{ltb-true, ltb-false, eqb-true, eqb-false}
+use lib.Count.{ones, ones_step}
 use lib.Dec.{eqb, ltb}
 use lib.ListN.{length}
 use Rattle.block.specs.Checked.{Register}
@@ -61,47 +60,6 @@ members_in m = places_in 16 0 m (omega arith)
 
 pub members-count : (m : ℕ) → m < 65536 → length (members m) ≡ ones m
 members-count m h = places_count 16 0 m h
-
--- ---- of d digits, not all 0: the lowest that is set stands at place t
-abbrev pub Lowest : (d m t : ℕ) → Type 0
-Lowest d m t = (t < d) × (2 ^ t ≤ m) × ((r : ℕ) → places d r m ≡ (r + t) ∷ places d r (m - 2 ^ t))
-
-odd_places : (d r m : ℕ) → m % 2 ≡ 1 → places (suc d) r m ≡ r ∷ places d (suc r) (m / 2)
-unfolding places
-odd_places d r m e = rw (eq-eqb (m % 2) 1 e)
-
-even-places : (d r m : ℕ) → m % 2 ≡ 0 → places (suc d) r m ≡ places d (suc r) (m / 2)
-unfolding places
-even-places d r m e = rw (ne_eqb (m % 2) 1 (omega arith))
-
-pub lowest : (d m : ℕ) → 0 < m → m < 2 ^ d → Lowest d m (count_trailing_zeros d m)
-unfolding count_trailing_zeros
-lowest zero m p h = absurd (omega arith)
-lowest (suc d) m p h = by (m % 2) refl (λ g. lowest d (m / 2) g (omega (arith, pow-suc 2 d)))
-  where
-    by : (e : ℕ) → m % 2 ≡ e → (0 < m / 2 → Lowest d (m / 2) (count_trailing_zeros d (m / 2)))
-        → Lowest (suc d) m (under e (count_trailing_zeros d (m / 2)))
-    by zero e f =
-        let x = f (omega arith) in
-        let t = count_trailing_zeros d (m / 2) in
-        let s = pow-suc 2 t in (
-          omega (arith, x.0),
-          omega (arith, x.1, s),
-          λ r.
-              let z : suc r + t ≡ r + suc t = omega arith in
-              let y : m / 2 - 2 ^ t ≡ (m - 2 ^ suc t) / 2 = omega (arith, x.1, s) in
-              even-places d r m e ∙ x.2 (suc r)
-              ∙ ap₂ ◌∷◌ z (ap (places d (suc r)) y ∙ sym (even-places d r (m - 2 ^ suc t) (omega (arith, x.1, s)))),
-        )
-    by (suc n) e f = (
-      omega arith,
-      omega arith,
-      λ r.
-          let l : m % 2 < 2 = mod-lt m (omega arith) in
-          let z : r ≡ r + 0 = omega arith in
-          let y : m / 2 ≡ (m - 1) / 2 = omega arith in
-          odd_places d r m (omega arith) ∙ ap₂ ◌∷◌ z (ap (places d (suc r)) y ∙ sym (even-places d r (m - 1) (omega arith))),
-    )
 
 -- ---- of PushRets and PopPc
 up_in : (r k : ℕ) → r + k ≤ 16 → Registers (up_from r k)

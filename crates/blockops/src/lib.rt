@@ -1,62 +1,48 @@
 // `emit_ops`: the operations of a block one behind another, a break check behind those that use the bus.
-#![tactic(auto)]
+#![tactic(auto, using(stepping::proofs::Steps::steps_append), unfolding(stepping::specs::Done::steps_done, lowering::specs::Steps::op_steps))]
 
-ghost use Rattle.std.specs.Prelude.{◌<◌};
+ghost use Rattle.std.specs.Prelude.{◌≡◌, ◌<◌, ◌≤◌, length};
 ghost use Rattle.block.specs.Block.{ops_of};
-ghost use Rattle.lowering.specs.Given.{given};
 ghost use Rattle.lowering.specs.Steps.{op_steps, ops_steps};
 ghost use Rattle.lower.specs.Lowers.{Lowers};
 
-use block::{Addresses, BOp, Block, Layout, Memory};
-use lower::Lowered;
+use asm::Asm;
+use block::{BOp, Block};
+use emission::Gen;
+
+// The operations of a block: the first n, of which no more than 32 stand there.
+fn ops(b: &Block) -> &[BOp]
+    ensures are { result.now ≡ ops_of b.now }
+    ensures few { length result.now ≤ 32 }
+{
+    let ops: &[BOp] = &b.ops;
+    &ops[..ops.len().min(b.n as usize)]
+}
 
 // The operation at position i, `next` the guest address behind it, followed by a break check where it uses the bus.
-fn lower_op(
-    out: &mut [u32],
-    tab: &mut [u64; 6152],
-    q: Lowered,
-    lay: Layout,
-    mem: Memory,
-    addr: Addresses,
-    o: BOp,
-    i: u32,
-    next: u32,
-) -> Lowered
+fn lower_op(asm: &mut Asm, g: &mut Gen, o: BOp, i: u32, next: u32)
     requires { i < 32 }
-    ensures { Lowers (given lay mem addr) (op_steps o i next) out.old tab.old q out.new tab.new result }
+    ensures { Lowers (op_steps o i next) asm.old g.old asm.new g.new }
 {
-    let fast = o.fast;
-    let q = dispatch::emit_op(out, tab, q, lay, mem, addr, fast, i, next);
-    if choices::uses_bus(fast) {
-        return lower::check_brk_hold(out, tab, q, lay, o.glue, next, i + 1);
+    dispatch::emit_op(asm, g, o.fast, i, next);
+    if choices::uses_bus(o.fast) {
+        lower::check_brk_hold(asm, g, o.glue, next, i + 1);
     }
-    q
 }
 
 // The operations in order; off the end of the block goes a chain, behind a jump nothing.
-pub fn emit_ops(out: &mut [u32], tab: &mut [u64; 6152], q: Lowered, b: Block) -> Lowered
-    ensures { Lowers b (ops_steps 0 b.pc0 (ops_of b)) out.old tab.old q out.new tab.new result }
+pub fn emit_ops(asm: &mut Asm, g: &mut Gen, b: &Block)
+    ensures { Lowers (ops_steps 0 b.now.pc0 (ops_of b.now)) asm.old g.old asm.new g.new }
 {
-    let lay = b.layout;
-    let mem = b.memory;
-    let addr = b.addresses;
-    let n = b.n;
-    let mut q = q;
+    let ops = ops(b);
     let mut pc = b.pc0;
-    let mut i: u32 = 0;
-    while i < 32 {
-        if i == n {
-            return lower::chain(out, tab, q, lay, pc, i);
-        }
-        let o = b.ops[i as usize];
-        let fast = o.fast;
-        let next = std::num::wrapping_add_u32(pc, o.len as u32);
-        q = lower_op(out, tab, q, lay, mem, addr, o, i, next);
-        if choices::may_jump(fast) {
-            return q;
+    for (i, o) in ops.iter().enumerate() {
+        let next = pc.wrapping_add(o.len as u32);
+        lower_op(asm, g, *o, i as u32, next);
+        if choices::may_jump(o.fast) {
+            return;
         }
         pc = next;
-        i += 1;
     }
-    lower::chain(out, tab, q, lay, pc, i)
+    lower::chain(asm, g, pc, ops.len() as u32);
 }

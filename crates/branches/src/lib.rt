@@ -1,4 +1,5 @@
 // Operations that jump (kinds 30 to 39), each as the steps of the definition's line for it; count is the operations done with it.
+// Position and count stay numbers that each clause ties: a struct with i + 1 for its invariant takes fewer counts than these functions.
 #![tactic(auto, using(stepping::proofs::Steps::steps_append), unfolding(stepping::specs::Done::steps_done, lowering::specs::Steps::lowered))]
 
 ghost use Rattle.std.specs.Prelude.{◌≡◌, ℕ, ◌+◌};

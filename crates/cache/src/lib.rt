@@ -1,4 +1,5 @@
-// The register cache of a block (RegCache in the Rust): eight host registers that hold guest registers.
+// The register cache of a block (RegCache in the Rust): eight host registers that hold guest registers. Functions, and not methods, since
+// the type is lowering's: its definitions speak of it. A slot that is free holds 16 (`FREE` there), and not None.
 #![tactic(auto)]
 
 ghost use Rattle.std.specs.Prelude.{◌≡◌, ◌/◌, ◌<◌, position, nat_eq};

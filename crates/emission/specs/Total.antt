@@ -1,8 +1,10 @@
 -- What the code emits for an item, whatever its operands: for one that no word carries, the word 0.
-use Rattle.std.specs.Prelude.{Bool, not, ◌&&◌, List, [], ◌∷◌, ◌++◌, map, ℕ, eqb}
+use Rattle.std.specs.Prelude.{Bool, List, [], ◌∷◌, ◌++◌, map, ℕ, ◌/◌, eqb}
+use Rattle.arm.specs.declared.Access.{Access}
 use Rattle.arm.specs.declared.Instr.{Instr}
+use Rattle.arm.specs.declared.Instr.TheVariants.{MemoryImm}
 use Rattle.block.specs.declared.Layout.{Layout}
-use Rattle.lowering.specs.Instrs.{CPU, ldr, str}
+use Rattle.lowering.specs.Instrs.{CPU, ldr}
 use Rattle.lowering.specs.declared.RegCache.{RegCache}
 use Rattle.lowering.specs.Cache.{host, FREE, off_reg, is_held, chosen, spill}
 use Rattle.code.specs.Items.{pick, Item, ins, go, new, bind}
@@ -39,13 +41,9 @@ starts_t (block c) e x s = starts_t c (inside s.asm.labels e) x (put_t new s)
 starts_t (start rd c) e x s = s.asm.at ∷ starts_t c e x (put_t (bind s.asm.labels) (put_t new s))
 starts_t (c then d) e x s = starts_t c e x s ++ starts_t d e x (after_t c e x s)
 
--- a slot's part of a flush
-abbrev pub flushed : Layout → (h g : ℕ) → Bool → List Instr
-flushed lay h g d = pick (d && not (eqb g FREE)) (str h CPU (off_reg lay g) ∷ []) []
-
--- a slot's part of a reload
-abbrev pub reloaded : Layout → (h g : ℕ) → List Instr
-reloaded lay h g = pick (eqb g FREE) [] (ldr h CPU (off_reg lay g) ∷ [])
+-- host register h, stored at the place of guest register r or loaded from it; nothing for a free slot
+abbrev pub at_place : Access → Layout → (h r : ℕ) → List Instr
+at_place access lay h r = pick (eqb r FREE) [] (MemoryImm access (off_reg lay r / 4) CPU h ∷ [])
 
 -- a guest register's way to a slot: nothing where it has one, else the spill, and its load if its value is asked for
 abbrev pub seating : Layout → RegCache → (r : ℕ) → (load : Bool) → List Instr

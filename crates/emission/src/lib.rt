@@ -3,23 +3,24 @@
 
 ghost use Rattle.std.specs.Prelude.{◌≡◌, true, false, List, [], ◌∷◌, ℕ, ◌+◌, ◌<◌, ◌≤◌};
 ghost use Rattle.arm.specs.declared.Instr.{Instr};
-ghost use Rattle.lowering.specs.Instrs.{mov as mov_of, mov_x, add_i, cmp as cmp_of};
+ghost use Rattle.arm.specs.declared.Instr.TheVariants.{LogicalShifted};
+ghost use Rattle.lowering.specs.Instrs.{ZR, mov as mov_of, mov_x, add_i, cmp as cmp_of};
 ghost use Rattle.lowering.specs.Cache.{flush as flush_of, reload as reload_of, slot_for, seated, stored, ld_reg, st_reg};
 ghost use Rattle.words.specs.Answers.{answer, word_of};
 ghost use Rattle.cache.specs.Lookup.{spilled};
 ghost use Rattle.asm.specs.State.{state, Wrote};
-ghost use Rattle.emission.specs.Total.{emitted, flushed, reloaded, seating};
+ghost use Rattle.emission.specs.Total.{emitted, at_place as moved_at_place, seating};
 ghost use Rattle.emission.specs.Gen.{with_cache};
 
-use arm::{AddSub, Flags, Logic, Second, Shift, Size};
+use arm::{Access, AddSub, Flags, Logic, Second, Shift, Size};
 use arrayvec::ArrayVec;
 use asm::Asm;
 use block::{Addresses, Layout, Memory};
 use cache::Spill;
 use lowering::{RegCache, Site};
 
-// What the methods of `Gen` are given of a block, its register cache, and its chain sites so far. The assembler stands beside it,
-// since what it holds is lent.
+// What the methods of `Gen` are given of a block, its register cache, and its chain sites so far. The assembler is passed beside it:
+// a struct around one would no longer say what the lent words end as. So the methods are functions of both.
 #[derive(Drop)]
 pub struct Gen {
     pub lay: Layout,
@@ -36,40 +37,26 @@ pub fn ins(asm: &mut Asm, w: u32)
     asm.emit(w);
 }
 
-pub fn mov(asm: &mut Asm, rd: u32, rm: u32)
-    ensures { Wrote asm.old (emitted (mov_of rd rm ∷ []) (state asm.old)) asm.new }
+// A register's move, of 32 bits or of 64.
+fn mov_of_size(asm: &mut Asm, size: Size, rd: u32, rm: u32)
+    ensures { Wrote asm.old (emitted (LogicalShifted size Logic.Orr Second.Plain Shift.Lsl rm 0 ZR rd ∷ []) (state asm.old)) asm.new }
 {
     ins(
         asm,
-        words::logical_shifted(
-            Size::W,
-            Logic::Orr,
-            Second::Plain,
-            Shift::Lsl,
-            rm,
-            0,
-            31,
-            rd,
-        ),
+        words::logical_shifted(size, Logic::Orr, Second::Plain, Shift::Lsl, rm, 0, 31, rd),
     );
+}
+
+pub fn mov(asm: &mut Asm, rd: u32, rm: u32)
+    ensures { Wrote asm.old (emitted (mov_of rd rm ∷ []) (state asm.old)) asm.new }
+{
+    mov_of_size(asm, Size::W, rd, rm);
 }
 
 pub fn mov_x(asm: &mut Asm, rd: u32, rm: u32)
     ensures { Wrote asm.old (emitted (mov_x rd rm ∷ []) (state asm.old)) asm.new }
 {
-    ins(
-        asm,
-        words::logical_shifted(
-            Size::X,
-            Logic::Orr,
-            Second::Plain,
-            Shift::Lsl,
-            rm,
-            0,
-            31,
-            rd,
-        ),
-    );
+    mov_of_size(asm, Size::X, rd, rm);
 }
 
 pub fn add_imm(asm: &mut Asm, rd: u32, rn: u32, imm: u32)
@@ -90,12 +77,15 @@ pub fn cmp(asm: &mut Asm, rn: u32, rm: u32)
     );
 }
 
-// What host register h holds is stored, if it is a guest register.
-fn flush_slot(asm: &mut Asm, lay: Layout, h: u32, r: u8)
-    ensures { Wrote asm.old (emitted (flushed lay h r true) (state asm.old)) asm.new }
+// Host register h at the place of guest register r, if it is one: stored there, or loaded.
+fn at_place(asm: &mut Asm, access: Access, lay: Layout, h: u32, r: u8)
+    ensures { Wrote asm.old (emitted (moved_at_place access lay h r) (state asm.old)) asm.new }
 {
     if r != 16 {
-        ins(asm, cache::str(h, cache::off_reg(lay, r)));
+        ins(
+            asm,
+            words::memory_imm(access, cache::off_reg(lay, r), 19, h),
+        );
     }
 }
 
@@ -106,17 +96,8 @@ pub fn flush(asm: &mut Asm, g: &Gen)
     let guest: &[u8] = &g.rc.guest;
     for (i, dirty) in g.rc.dirty.iter().enumerate() {
         if *dirty {
-            flush_slot(asm, g.lay, cache::host(i), guest[i]);
+            at_place(asm, Access::StrW, g.lay, cache::host(i), guest[i]);
         }
-    }
-}
-
-// Host register h holds guest register r again, if it is one.
-fn reload_slot(asm: &mut Asm, lay: Layout, h: u32, r: u8)
-    ensures { Wrote asm.old (emitted (reloaded lay h r) (state asm.old)) asm.new }
-{
-    if r != 16 {
-        ins(asm, cache::ldr(h, cache::off_reg(lay, r)));
     }
 }
 
@@ -125,7 +106,7 @@ pub fn reload(asm: &mut Asm, g: &Gen)
     ensures { Wrote asm.old (emitted (reload_of g.now.lay g.now.rc) (state asm.old)) asm.new }
 {
     for (i, r) in g.rc.guest.iter().enumerate() {
-        reload_slot(asm, g.lay, cache::host(i), *r);
+        at_place(asm, Access::LdrW, g.lay, cache::host(i), *r);
     }
 }
 

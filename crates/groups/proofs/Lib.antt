@@ -1,3 +1,2 @@
-pub mod Loop
 pub mod Members
 pub mod Saved

@@ -1,43 +1,46 @@
--- The words of a mask: that of its lowest register, and those of the mask without its digit.
+-- The words of a mask, register by register: those from r on are r's, if its digit is set, and those above it.
 use mathlib.Core.Path.{◌≡◌, sym, ap, ap₂, ◌∙◌}
 use mathlib.Core.Bool.{Bool}
-use mathlib.Core.List.{[], ◌∷◌, ◌++◌}
-use Prim.Native.Nat.{ℕ, ◌+◌, ◌-◌, ◌*◌, ◌%◌, ◌^◌, ◌<◌, ◌≤◌}
-use native.Mathlib.Nat.{one-le-pow}
-use native.Mathlib.Numerals.{add-one}
+use mathlib.Core.List.{List, [], ◌++◌}
+use Prim.Native.Nat.{ℕ, suc, ◌+◌, ◌-◌, ◌/◌, ◌%◌, ◌^◌, ◌<◌, ◌≤◌}
+use native.Mathlib.Nat.{pow-suc, div-div-eq-div-mul}
 use native.Mathlib.Omega.{arith}
-use lib.Count.{count_trailing_zeros}
-use Rattle.block.specs.Block.{places, members}
-use Rattle.block.proofs.Groups.{lowest}
-use Rattle.lowering.specs.Steps.{move_word, move_words}
+use borrow.Author.Tests.{eq-eqb, ne_eqb}
+use lib.Dec.{eqb}
+use Rattle.block.specs.Block.{leading, places, members}
+use Rattle.lowering.specs.Steps.{Step, move_word, move_words}
 
--- ---- of a mask
--- its lowest digit, as the code shifts it
-abbrev pub digit : ℕ → ℕ
-digit m = 1 * 2 ^ count_trailing_zeros 16 m % 2 ^ 16
+module _ (u : Bool) (i m : ℕ) where
+  -- the words of the registers from r on, the k-th on
+  abbrev pub words_from : (k r : ℕ) → List Step
+  words_from k r = move_words u i k (places (16 - r) r (m / 2 ^ r))
 
-module _ (m : ℕ) (p : 0 < m) (h : m < 65536) where
-  lowest_le : 2 ^ count_trailing_zeros 16 m ≤ m
-  lowest_le = (lowest 16 m p h).1
+  pub all_words : words_from 0 0 ≡ move_words u i 0 (members m)
+  all_words = let e : m / 2 ^ 0 ≡ m = omega arith in ap (λ n. move_words u i 0 (places 16 0 n)) e
 
-  digit_is : digit m ≡ 2 ^ count_trailing_zeros 16 m
-  digit_is = omega (arith, lowest_le)
+  pub no_words : (k r : ℕ) → 16 ≤ r → words_from k r ≡ []
+  unfolding move_words places
+  no_words k r h = let e : 16 - r ≡ 0 = omega arith in ap (λ d. move_words u i k (places d r (m / 2 ^ r))) e
 
-  pub digit_le : digit m ≤ m
-  digit_le = omega (arith, lowest_le)
+  module _ (k r : ℕ) (h : r < 16) where
+    abbrev above : List ℕ
+    above = places (16 - (r + 1)) (r + 1) (m / 2 ^ (r + 1))
 
-  pub digit_pos : 0 < digit m
-  digit_pos = omega (arith, digit_is, one-le-pow (count_trailing_zeros 16 m) 2 (omega arith))
+    first : places (16 - r) r (m / 2 ^ r) ≡ leading (eqb (m / 2 ^ r % 2) 1) r above
+    unfolding places
+    first =
+        let d : 16 - r ≡ suc (16 - (r + 1)) = omega arith in
+        let s : suc r ≡ r + 1 = omega arith in
+        let n : m / 2 ^ r / 2 ≡ m / 2 ^ (r + 1) = div-div-eq-div-mul m (2 ^ r) 2 ∙ ap (λ x. m / x) (sym (pow-suc 2 r)) ∙ ap (λ x. m / 2 ^ x) s in
+        ap (λ x. places x r (m / 2 ^ r)) d
+        ∙ ap₂ (λ x y. leading (eqb (m / 2 ^ r % 2) 1) r (places (16 - (r + 1)) x y)) s n
 
-  -- a word, and those of the others
-  pub a_word : (u : Bool) (i k : ℕ)
-      → move_words u i k (members m) ≡ move_word u i k (count_trailing_zeros 16 m) ++ move_words u i (k + 1) (members (m - digit m))
-  unfolding move_words
-  a_word u i k =
-      let z : 0 + count_trailing_zeros 16 m ≡ count_trailing_zeros 16 m = omega arith in
-      ap (move_words u i k) ((lowest 16 m p h).2 0 ∙ ap (λ r. r ∷ members (m - 2 ^ count_trailing_zeros 16 m)) z)
-      ∙ ap₂ (λ j n. move_word u i k (count_trailing_zeros 16 m) ++ move_words u i j (members (m - n))) (sym (add-one k)) (sym digit_is)
+    pub a_word : m / 2 ^ r % 2 ≡ 1 → words_from k r ≡ move_word u i k r ++ words_from (k + 1) (r + 1)
+    unfolding move_words
+    a_word e =
+        let s : suc k ≡ k + 1 = omega arith in
+        ap (move_words u i k) (first ∙ ap (λ b. leading b r above) (eq-eqb (m / 2 ^ r % 2) 1 e))
+        ∙ ap (λ j. move_word u i k r ++ move_words u i j above) s
 
-pub no_words : (m : ℕ) → m ≤ 0 → (u : Bool) (i k : ℕ) → move_words u i k (members m) ≡ []
-unfolding move_words places
-no_words m h u i k = let e : m ≡ 0 = omega arith in ap (λ n. move_words u i k (members n)) e
+    pub not_here : (m / 2 ^ r % 2 ≡ 1 → ⊥) → words_from k r ≡ words_from k (r + 1)
+    not_here e = ap (move_words u i k) (first ∙ ap (λ b. leading b r above) (ne_eqb (m / 2 ^ r % 2) 1 e))

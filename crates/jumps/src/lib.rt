@@ -10,6 +10,7 @@ ghost use Rattle.lowering.specs.Fragments.{limit as limit_of, opening as opening
 ghost use Rattle.words.specs.Answers.{answer, word_of};
 ghost use Rattle.asm.specs.State.{state, Wrote};
 ghost use Rattle.emission.specs.Total.{emitted, after_t, starts_t};
+ghost use Rattle.emission.specs.Emits.{Codes};
 ghost use Rattle.emission.specs.Gen.{given_of};
 ghost use Rattle.jumps.specs.Parts.{leave as leave_of, back as back_of, lookup as lookup_of, saves as saves_of};
 ghost use Rattle.jumps.specs.Parts.{arguments as arguments_of};
@@ -47,7 +48,7 @@ const OFF_BRK: u32 = 24;
 
 const OFF_SLOT: u32 = 32;
 
-// Conditions: not equal, and unsigned at most.
+// Conditions: not equal, and unsigned at most. They stay numbers: `fork` promises its code for each below 16, and so does `Asm::b_cond`.
 const NE: u32 = 1;
 
 const LS: u32 = 9;
@@ -80,7 +81,7 @@ fn pair(asm: &mut Asm, mode: Mode, pair: Pair, imm: u32, rt: u32, rt2: u32)
 
 // A store, by its word, and out with the count of operations done.
 fn leave(asm: &mut Asm, store: u32)
-    ensures { (n : Depth) (e : Var n → ℕ) (i : Instr) → store ≡ word_of (answer i) → Wrote asm.old (after_t (leave_of i) e 0 (state asm.old)) asm.new }
+    ensures { (n : Depth) (e : Var n → ℕ) (i : Instr) → store ≡ word_of (answer i) → Codes e asm.old (leave_of i) asm.new }
 {
     emission::ins(asm, store);
     emission::mov(asm, 0, DONE);
@@ -89,7 +90,7 @@ fn leave(asm: &mut Asm, store: u32)
 
 // Leave with pc, so many operations of this block done.
 pub fn exit_imm(asm: &mut Asm, g: &Gen, pc: u32, count: u32)
-    ensures { (n : Depth) (e : Var n → ℕ) → Wrote asm.old (after_t (exit_imm (given_of g.now) g.now.rc pc count) e 0 (state asm.old)) asm.new }
+    ensures { (n : Depth) (e : Var n → ℕ) → Codes e asm.old (exit_imm (given_of g.now) g.now.rc pc count) asm.new }
 {
     emission::flush(asm, g);
     moves::mov32(asm, 9, pc);

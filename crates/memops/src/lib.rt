@@ -7,6 +7,7 @@ ghost use Rattle.lowering.specs.Instrs.{sub as sub_of, indexed as indexed_of};
 ghost use Rattle.lowering.specs.Fragments.{try_region, align_test, map_test, call, load as load_of, store as store_of};
 ghost use Rattle.asm.specs.State.{state, Wrote};
 ghost use Rattle.emission.specs.Total.{emitted, after_t};
+ghost use Rattle.emission.specs.Emits.{Codes};
 ghost use Rattle.emission.specs.Gen.{given_of};
 ghost use Rattle.memops.specs.Pieces.{ram_store, by_read, by_write};
 
@@ -50,7 +51,7 @@ fn indexed(asm: &mut Asm, access: Access, rt: u32, rn: u32, rm: u32)
 
 // One region: w3 = address - base; the bytes must lie inside, or it goes to the miss.
 fn try_region(asm: &mut Asm, region: Region, w: Width, signed: bool, miss: Label, done: Label)
-    ensures { Wrote asm.old (after_t (try_region region.reg region.base region.len w signed inner (outer inner)) (inside miss.0 (inside done.0 nowhere)) 0 (state asm.old)) asm.new }
+    ensures { Codes (inside miss.0 (inside done.0 nowhere)) asm.old (try_region region.reg region.base region.len w signed inner (outer inner)) asm.new }
 {
     moves::mov32(asm, 2, region.base);
     sub(asm, 3, 0, 2);

@@ -1,32 +1,22 @@
--- So far i operations are lowered: those left, lowered from here, are all of them from the start.
-use Rattle.std.proofs.Common.{◌∙◌, arith, get_or-take}
-use Rattle.blockops.proofs.Loop.{take-inside, take-few, take_less, end_left, jump_left, next-left}
+use Rattle.std.proofs.Common.{refl, ap}
+use Rattle.lowering.specs.Steps.{ops_steps}
+use Rattle.lower.proofs.Loop.{all_left, none_left, less_left}
+use Rattle.blockops.proofs.Loop.{at_end, jumps, goes_on}
 use Rattle.blockops.proofs.emit_ops.Goals as goal
 
-pub returns-then-i-n : goal.returns-then-i-n
-returns-then-i-n c =
-    let l = c.loop-i in
-    end_left c.args.b _ _ _ l.i l.pc _ _ _ l.invariant.5 _ _ _ (omega (arith, take-few c.args.b.n c.args.b.ops, l.invariant.4, c.if-i-n.true)) (c.chain.ensures _ _)
+pub loop-i-init : goal.loop-i-init
+loop-i-init c = all_left _ _ _ (ap (ops_steps 0 c.args.b.now.pc0) c.ops-ops.ensures.are)
 
 pub returns-then-may_jump : goal.returns-then-may_jump
 returns-then-may_jump c =
-    let l = c.loop-i in
-    jump_left c.args.b _ _ _ l.i l.pc _ _ _ l.invariant.5 _ _ _ (take-inside c.args.b.n l.i c.args.b.ops (omega (arith, l.invariant.1, l.invariant.4, c.if-i-n.false)) (omega (arith, l.invariant.3, c.loop-i-test.true))) (get_or-take c.args.b.n c.args.b.ops l.i _ (omega (arith, l.invariant.1, l.invariant.4, c.if-i-n.false))) _ _ _ _
-    c.may_jump.ensures c.wrapping_add_u32-next.ensures.value c.lower_op-q.ensures c.if-may_jump.true
+    none_left _ _ _ refl
+    (less_left _ _ _ _ _ (jumps _ _ _ _ c.loop-i-test.true _ c.may_jump.ensures c.if-may_jump.true) c.loop-i.invariant c.lower_op.ensures)
 
 pub loop-i-preserved : goal.loop-i-preserved
 loop-i-preserved c =
-    let l = c.loop-i in (
-      omega arith,
-      omega arith,
-      c.lower_op-q.auto.out ∙ l.invariant.2,
-      l.invariant.3,
-      l.invariant.4,
-      next-left c.args.b _ _ _ l.i l.pc _ _ _ l.invariant.5 _ _ _ (take-inside c.args.b.n l.i c.args.b.ops (omega (arith, l.invariant.1, l.invariant.4, c.if-i-n.false)) (omega (arith, l.invariant.3, c.loop-i-test.true))) (get_or-take c.args.b.n c.args.b.ops l.i _ (omega (arith, l.invariant.1, l.invariant.4, c.if-i-n.false))) _ _ _ _
-          c.may_jump.ensures c.wrapping_add_u32-next.ensures.value c.lower_op-q.ensures c.if-may_jump.false,
-    )
+    less_left _ _ _ _ _ (goes_on _ _ _ _ c.loop-i-test.true _ c.may_jump.ensures c.if-may_jump.false) c.loop-i.invariant c.lower_op.ensures
 
 pub returns : goal.returns
 returns c =
-    let l = c.loop-i in
-    end_left c.args.b _ _ _ l.i l.pc _ _ _ l.invariant.5 _ _ _ (omega (arith, take_less c.args.b.n c.args.b.ops)) (c.chain-2.ensures _ _)
+    none_left _ _ _ refl
+    (less_left _ _ _ _ _ (at_end _ _ _ c.loop-i-test.false c.loop-i.auto.i-end) c.loop-i.invariant c.chain.ensures)

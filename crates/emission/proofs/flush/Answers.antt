@@ -11,7 +11,7 @@ loop-i-preserved c =
     let lg : length rc.guest ≡ 8 = search rules in
     let ld : length rc.dirty ≡ 8 = search rules in
     elim c.if-dirty.branch [
-      | then-dirty x ↦ rw x.asm-is (one_stored _ _ _ _ w lg ld (omega arith) _ _ x.host.ensures x.if-dirty.true x.flush_slot.ensures)
+      | then-dirty x ↦ rw x.asm-is (one_stored _ _ _ _ w lg ld (omega arith) _ _ x.host.ensures x.if-dirty.true x.at_place.ensures)
       | else-dirty x ↦ rw x.asm-is (one_kept _ _ _ _ w lg ld (omega arith) x.if-dirty.false)
     ]
 

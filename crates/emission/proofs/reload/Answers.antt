@@ -6,7 +6,7 @@ use Rattle.emission.proofs.reload.Goals as goal
 pub loop-i-preserved : goal.loop-i-preserved
 loop-i-preserved c =
     let h : length c.args.g.now.rc.guest ≡ 8 = search rules in
-    one_loaded _ _ _ c.loop-i.invariant h (omega arith) _ _ c.host.ensures c.reload_slot.ensures
+    one_loaded _ _ _ c.loop-i.invariant h (omega arith) _ _ c.host.ensures c.at_place.ensures
 
 pub returns : goal.returns
 unfolding reload
