@@ -1,15 +1,13 @@
 -- A block, emitted piece by piece.
 use mathlib.Core.Path.{◌≡◌, refl, sym, ap, ap₂, subst, ◌∙◌}
-use mathlib.Core.Bool.{Bool, true, false}
-use mathlib.Core.List.{List, [], ◌∷◌, ◌++◌}
+use mathlib.Core.List.{List, [], ◌∷◌}
 use Prim.Native.Nat.{ℕ, ◌≤◌}
-use lib.ListN.{take, length}
+use lib.ListN.{length}
 use lib.Seq.{take_all}
-use Rattle.block.specs.declared.Guard.{Guard}
 use Rattle.block.specs.declared.Block.{Block}
-use Rattle.block.specs.Block.{ops_of, in_flash}
+use Rattle.block.specs.Block.{ops_of}
 use Rattle.block.specs.Checked.{Checked}
-use Rattle.code.specs.Items.{pick, new, bind}
+use Rattle.code.specs.Items.{new, bind}
 use Rattle.code.specs.Tree.{top, Code, code, nowhere}
 use Rattle.code.specs.Walk.{walked_words, OneWalk}
 use Rattle.code.proofs.Walk.{walked-length, one_walk}
@@ -23,7 +21,7 @@ use Rattle.arrayvec.specs.ArrayVec.{ArrayVec}
 use Rattle.asm.specs.declared.Asm.{Asm}
 use Rattle.asm.specs.declared.Counts.{Counts}
 use Rattle.asm.specs.declared.Label.{Label}
-use Rattle.asm.specs.State.{fixup_room, table_room, State, parts, state, begin, label_of, put, Wrote}
+use Rattle.asm.specs.State.{fixup_room, table_room, parts, state, begin, label_of, put, Wrote}
 use Rattle.asm.proofs.Wrote.{wrote-then, wrote-as}
 use Rattle.emission.specs.declared.Gen.{Gen}
 use Rattle.emission.specs.Gen.{given_of}
