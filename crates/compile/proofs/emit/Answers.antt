@@ -1,12 +1,17 @@
-use mathlib.Core.Path.{refl, ap, ◌∙◌}
-use Rattle.asm.specs.State.{made}
-use Rattle.blockops.proofs.Loop.{of_block}
+use mathlib.Core.Path.{refl, ap}
+use mathlib.Core.List.{map}
+use Rattle.lowering.specs.declared.Site.{Site}
 use Rattle.compile.proofs.Laws.{emits}
 use Rattle.compile.proofs.emit.Goals as goal
 
 pub returns : goal.returns
 returns c =
-    let b = c.args.b in
-    emits b _ _ _ _ _ _ _ _ _ _ _ _ _ _ _ _ (c.new_label-exit.ensures ∙ ap made c.start.ensures) c.opening-a.ensures
-    c.begun.ensures (of_block b _ _ _ _ _ _ _ (c.limit-q.ensures _ _)) (of_block b _ _ _ _ _ _ _ (c.guarded-q.ensures _ _))
-    c.emit_ops-q.ensures _ _ _ _ _ c.bind.ensures c.closing-a.ensures refl
+    emits c.args.b.now _ _ _ _ _ _ _ _ _ _ c.requires
+    (record {
+      given = refl;
+      cache = c.empty.ensures;
+      ats = ap (map (λ (s : Site). s.at)) c.new.ensures;
+      targets = ap (map (λ (s : Site). s.target)) c.new.ensures;
+    })
+    c.new_label-exit.ensures.wrote c.opening.ensures c.limit.ensures c.guarded.ensures c.emit_ops.ensures
+    _ c.new_label-exit.ensures.label c.bind.ensures c.closing.ensures

@@ -1,0 +1,27 @@
+use mathlib.Core.Path.{◌≡◌, ap, ◌∙◌}
+use Rattle.block.specs.Checked.{Checked}
+use Rattle.code.specs.Walk.{walked_words}
+use Rattle.lowering.specs.Compile.{block_lines}
+use Rattle.asm.specs.State.{State}
+use Rattle.finish.specs.Whole.{laid}
+use Rattle.compile.proofs.Laws.{walked_are, told_is, ats_are, targets_are, one_walk_is}
+use Rattle.compile.proofs.assemble.Goals as goal
+
+pub returns : goal.returns
+returns c =
+    let h = c.emit-sites.ensures in
+    let full = c.sized.ensures in
+    let f = c.finish-finished.ensures in
+    let walked : Checked c.args.b.now → c.finish-finished.new.asm.words.now ≡ laid (walked_words c.args.upto (block_lines c.args.b.now)) c.args.asm.now.words.now =
+    λ ck. ap (λ (s : State). s.words) f.wrote.code ∙ walked_are _ ck c.requires full _ h _ in
+    record {
+      walked = λ ck. (
+        f.told ∙ told_is _ ck c.requires full _ h,
+        walked ck,
+        ats_are _ ck c.requires full _ h,
+        targets_are _ ck c.requires full _ h,
+      );
+      one_walk = λ ck fits. one_walk_is _ _ _ _ (walked ck) fits;
+      words = f.wrote.words ∙ h.wrote.words;
+      table = f.wrote.table ∙ h.wrote.table;
+    }
