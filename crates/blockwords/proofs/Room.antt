@@ -10,11 +10,12 @@ use Rattle.lowering.specs.declared.Site.{Site}
 use Rattle.lowering.specs.Steps.{block_steps}
 use Rattle.lowering.specs.Compile.{block_code, block_words, body_offset, starts, targets, zip_sites, sites}
 use Rattle.bounds.proofs.Sites.{sited}
+use Rattle.listing.specs.Listing.{site_lines}
 use Rattle.listing.proofs.Room.{nine, counts_le, site_le, refused_le}
 use Rattle.answers.specs.Translation.{Told, accepted, refused, translation, lent_after}
 use Rattle.answers.proofs.Cases.{Ends, faulty, short, fits, ends}
 use Rattle.answers.proofs.Promises.{translations}
-use Rattle.blockwords.specs.Text.{site_text, text_of, lent, answer_text}
+use Rattle.blockwords.specs.Text.{text_of, lent, answer_text}
 
 -- ---- at most two sites
 zip_le : (ps ts : List ℕ) → length (zip_sites ps ts) ≤ length ts
@@ -26,10 +27,10 @@ two_sites : (b : Block) → length (sites b) ≤ 2
 unfolding sites
 two_sites b = omega (arith, zip_le (starts (block_code b) 0) (targets (block_steps b)), (sited b).two)
 
-site_text_le : (ss : List Site) → length (site_text ss) ≤ 35 * length ss
-unfolding site_text
-site_text_le [] = omega arith
-site_text_le (s ∷ ss) = simp length-append (omega (arith, site_le s.at s.target, site_text_le ss))
+site_lines_le : (ss : List Site) → length (site_lines ss) ≤ 35 * length ss
+unfolding site_lines
+site_lines_le [] = omega arith
+site_lines_le (s ∷ ss) = simp length-append (omega (arith, site_le s.at s.target, site_lines_le ss))
 
 -- ---- 16,384 words
 lent_length : length lent ≡ 16384
@@ -41,7 +42,7 @@ accepted_le : (n body : ℕ) (ss : List Site) (ws : List ℕ) → length (take n
     → length (text_of (accepted n body ss) ws) ≤ 147579
 unfolding text_of
 accepted_le n body ss ws few two =
-    simp length-append (omega (arith, counts_le n body, nine 0 (take n ws), site_text_le ss))
+    simp length-append (omega (arith, counts_le n body, nine 0 (take n ws), site_lines_le ss))
 
 told_le : (t : Told) (number place : ℕ) (ws : List ℕ) → t ≡ refused number place → length (text_of t ws) ≤ 147579
 unfolding text_of

@@ -1,6 +1,9 @@
-// The encoder that a name and its numbers call, by how many numbers there are. A list of names stands at the `match` that counts them; a
-// name that is none of them is looked for in the function that the last arm calls.
+// The encoder that a name and its numbers call, by how many numbers there are. A name that stands at no arm of a `match` is looked for
+// in the function that the last arm calls.
 #![tactic(auto)]
+
+ghost use Rattle.std.specs.Prelude.{◌≡◌};
+ghost use Rattle.calls.specs.declared.CallError.TheVariants.{Unknown, Refused};
 
 use a64::{Cond, EncodeError};
 use arrayvec::ArrayVec;
@@ -15,12 +18,16 @@ pub enum CallError {
 }
 
 impl From<EncodeError> for CallError {
+    ghost from_gives = { λ e c. c ≡ Refused e };
+
     fn from(e: EncodeError) -> CallError {
         CallError::Refused(e)
     }
 }
 
 impl From<TryFromIntError> for CallError {
+    ghost from_gives = { λ _ c. c ≡ Unknown };
+
     fn from(_e: TryFromIntError) -> CallError {
         CallError::Unknown
     }
@@ -28,11 +35,11 @@ impl From<TryFromIntError> for CallError {
 
 pub fn call(name: &[u8], numbers: &[u64]) -> Result<ArrayVec<u32, 4>, CallError> {
     match numbers {
+        [] => single(none(name)),
+        &[a] => single(one(name, a)),
         &[a, b] => two(name, a, b),
         &[a, b, c] => three(name, a, b, c),
         &[a, b, c, d] => four(name, a, b, c, d),
-        [] => single(none(name)),
-        &[a] => single(one(name, a)),
         _ => Err(CallError::Unknown),
     }
 }

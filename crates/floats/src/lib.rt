@@ -52,26 +52,18 @@ pub fn ucvtf(sd: u32, wn: u32) -> Result<u32, EncodeError>
     encode(Instr::FloatConvert(Convert::Ucvtf, wn, sd))
 }
 
+// The Rust gives the operation as the word without its registers.
+#[tactic(auto, unfolding(crate::specs::Fop::fop_of))]
 pub fn fop(opc: u32, sd: u32, sn: u32, sm: u32) -> Result<u32, EncodeError>
     ensures { told result ≡ told (fop_of opc sd sn sm) }
 {
-    if opc == 0x1e20_2800 {
-        return encode(Instr::FloatTwo(Float::Fadd, sm, sn, sd));
+    match opc {
+        0x1e20_2800 => encode(Instr::FloatTwo(Float::Fadd, sm, sn, sd)),
+        0x1e20_3800 => encode(Instr::FloatTwo(Float::Fsub, sm, sn, sd)),
+        0x1e20_0800 => encode(Instr::FloatTwo(Float::Fmul, sm, sn, sd)),
+        0x1e20_1800 => encode(Instr::FloatTwo(Float::Fdiv, sm, sn, sd)),
+        0x1e20_7800 => encode(Instr::FloatTwo(Float::Fminnm, sm, sn, sd)),
+        0x1e20_6800 => encode(Instr::FloatTwo(Float::Fmaxnm, sm, sn, sd)),
+        _ => Err(EncodeError::Operand),
     }
-    if opc == 0x1e20_3800 {
-        return encode(Instr::FloatTwo(Float::Fsub, sm, sn, sd));
-    }
-    if opc == 0x1e20_0800 {
-        return encode(Instr::FloatTwo(Float::Fmul, sm, sn, sd));
-    }
-    if opc == 0x1e20_1800 {
-        return encode(Instr::FloatTwo(Float::Fdiv, sm, sn, sd));
-    }
-    if opc == 0x1e20_7800 {
-        return encode(Instr::FloatTwo(Float::Fminnm, sm, sn, sd));
-    }
-    if opc == 0x1e20_6800 {
-        return encode(Instr::FloatTwo(Float::Fmaxnm, sm, sn, sd));
-    }
-    Err(EncodeError::Operand)
 }

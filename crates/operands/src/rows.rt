@@ -254,7 +254,8 @@ pub fn shape_of(kind: u8, x: [u32; 6]) -> Shape
     }
 }
 
-// The operation that a kind makes of its operands.
+// The operation that a kind makes of its operands. Inlined: a call would write it in pieces where it is then read whole, and wait for that.
+#[inline(always)]
 pub fn fast_of(kind: u8, x: [u32; 6]) -> Fast
     requires { kind < 50 }
     ensures { result ≡ fast_of kind x }

@@ -8,4 +8,4 @@ mod split;
 
 pub use number::{number_of, signed};
 pub use put::{Buffer, keep};
-pub use split::{Words, place, split_line, split_word};
+pub use split::{Words, split_line, split_word};

@@ -63,8 +63,3 @@ impl<'a> Iterator for Words<'a> {
         Some(word)
     }
 }
-
-// The number of a word among the words of a list, from 0 on; as many as there are where it is none of them.
-pub fn place(list: &[u8], word: &[u8]) -> usize {
-    Words(list).take_while(|w| *w != word).count()
-}
