@@ -1,5 +1,5 @@
--- The faults of a block record in numbers: those of document 01's "Faults, in order", and those that document 02 adds. A fault's number is 0
--- where there is none.
+-- The faults of a block record in numbers: those of document 01's "Faults, in order", and those that document 02 adds. A fault's number is
+-- 0 where there is none.
 use Rattle.std.specs.Prelude.{Bool, true, false, ℕ, zero, suc, Result, Ok, Err}
 use Rattle.faults.specs.declared.Fault.{Fault}
 use Rattle.faults.specs.declared.Fault.TheVariants.{Cut, Field, Kind, Operand, Offset, Region, Start, TooMany, AfterJump, Room}

@@ -1,7 +1,8 @@
 // The operands that choose: a number to a case. A number above the cases is the last: functions, since a
 // `From` promises that nothing is lost, and a `TryFrom` would refuse what a record may hold.
 ghost use Rattle.std.specs.Prelude.{◌≡◌};
-ghost use Rattle.operands.specs.Kinds.{op_of, rmw_op_of, cond_of, base_of, amount_of, width_of, rk_of, part_of, choice_of, un_kind_of, div_kind_of};
+ghost use Rattle.operands.specs.Kinds.{op_of, rmw_op_of, cond_of, base_of, amount_of, width_of, rk_of, part_of, choice_of};
+ghost use Rattle.operands.specs.Kinds.{un_kind_of, div_kind_of};
 
 use crate::numbers::low;
 use block::{Amount, Base, Choice, Cond, DivKind, Op, Part, Rk, RmwOp, UnKind, Width};

@@ -30,7 +30,8 @@ flash-reading s f e =
     ∙ pass (guard_field s) 77 _ refl (no-guard s e)
     ∙ behind s f
 
-pub refused_within : (s : List ℕ) (number place : ℕ) → in_flash (start_of s) ≡ false → refused number place ≡ within_ram s (refused number place)
+pub refused_within : (s : List ℕ) (number place : ℕ) → in_flash (start_of s) ≡ false
+    → refused number place ≡ within_ram s (refused number place)
 unfolding within_ram in_ram
 refused_within s number place e = rw e refl
 

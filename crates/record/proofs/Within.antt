@@ -1,4 +1,5 @@
--- The operations of a RAM block, one after the other, up to RAM's end: one step, at the i-th operation; what reading gives has room for the walk; and where the walk is accepted, the operations end inside RAM.
+-- The operations of a RAM block, one after the other, up to RAM's end: one step, at the i-th operation; what reading gives has room for the
+-- walk; and where the walk is accepted, the operations end inside RAM.
 use mathlib.Core.Path.{◌≡◌, refl, ◌∙◌}
 use mathlib.Core.Bool.{Bool, true, false}
 use mathlib.Core.List.{List, [], ◌∷◌}

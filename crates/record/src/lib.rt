@@ -4,7 +4,8 @@
 ghost use Rattle.std.specs.Prelude.{◌≡◌, false, ◌+◌, ◌≤◌, ◌<◌, length, IfOk};
 ghost use Rattle.block.specs.Block.{in_flash};
 ghost use Rattle.block.specs.Checked.{Checked};
-ghost use Rattle.record.specs.Record.{header as header_of, operations as operations_of, start_of, guard_field, reading, found, found_in, Told};
+ghost use Rattle.record.specs.Record.{header as header_of, operations as operations_of, start_of, guard_field, reading};
+ghost use Rattle.record.specs.Record.{found, found_in, Told};
 ghost use Rattle.record.specs.Parts.{Faultless};
 
 mod operations;

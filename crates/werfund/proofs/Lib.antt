@@ -1,3 +1,2 @@
 mod Laws
 mod Zero
-pub mod Known

@@ -4,9 +4,7 @@ use mathlib.Core.List.{List}
 use Prim.Native.Nat.{ℕ, zero, suc, ◌<◌}
 use native.Mathlib.Omega.{arith}
 use lib.ListN.{length}
-use Rattle.record.specs.declared.Answer.{Answer}
-use Rattle.record.specs.declared.Answer.TheVariants.{Accepted, Refused}
-use Rattle.record.specs.Record.{number_of as fault_number, reading}
+use Rattle.record.specs.Record.{Answer, Accepted, Refused, number_of as fault_number, reading}
 use Rattle.record.proofs.Faults.{told}
 use Rattle.lowering.specs.Compile.{block_words}
 use Rattle.answers.specs.Translation.{translation}

@@ -1,5 +1,5 @@
 -- AN ANSWER IN NUMBERS, as the host gets it.
-use Rattle.std.specs.Prelude.{List, [], ◌∷◌, ◌++◌, ℕ, Result, Ok, Err, ◌*◌, ◌^◌, length, take}
+use Rattle.std.specs.Prelude.{List, [], ◌∷◌, ◌++◌, ℕ, ◌*◌, ◌^◌, length, take, Result, Ok, Err}
 use Rattle.lowering.specs.declared.Site.{Site}
 use Rattle.words.specs.declared.EncodeError.{EncodeError}
 use Rattle.words.specs.Answers.{number}

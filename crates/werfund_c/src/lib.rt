@@ -1,4 +1,5 @@
-// The functions of `werfund` as a static library for C: under the same names, with the same contracts. host/werfund.h declares them.
+// The functions of `werfund` as a static library for C: under the same names, with the same contracts. They stand twice, since a crate is a
+// library or an archive, and C calls them by these names. host/werfund.h declares them.
 #![tactic(auto)]
 
 ghost use Rattle.std.specs.Prelude.{◌≡◌, true, ◌∷◌};

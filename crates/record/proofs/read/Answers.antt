@@ -48,7 +48,9 @@ returns-in_err-map_err c =
     record { is_reading = p.is_reading; checked = p.checked; number_and_place = p.number_and_place }
 
 pub memory_field-requires : goal.memory_field-requires
-memory_field-requires c = omega (arith, (layout-whole _ (passed c.layout_field.result c.layout_field.ensures c.in_ok-map_err.ensures.variant)).1.inside)
+memory_field-requires c =
+    let l = passed c.layout_field.result c.layout_field.ensures c.in_ok-map_err.ensures.variant in
+    omega (arith, (layout-whole _ l).1.inside)
 
 pub returns-in_err-map_err-2 : goal.returns-in_err-map_err-2
 unfolding reading
@@ -63,7 +65,9 @@ returns-in_err-map_err-2 c =
     record { is_reading = p.is_reading; checked = p.checked; number_and_place = p.number_and_place }
 
 pub addresses_field-requires : goal.addresses_field-requires
-addresses_field-requires c = omega (arith, (memory-whole _ (passed c.memory_field.result c.memory_field.ensures c.in_ok-map_err-2.ensures.variant)).1.inside)
+addresses_field-requires c =
+    let m = passed c.memory_field.result c.memory_field.ensures c.in_ok-map_err-2.ensures.variant in
+    omega (arith, (memory-whole _ m).1.inside)
 
 pub returns-in_err-map_err-3 : goal.returns-in_err-map_err-3
 unfolding reading
