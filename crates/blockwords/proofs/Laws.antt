@@ -45,11 +45,16 @@ module _
     unfolding text_of
     refused-puts r e p = subst (λ x. Puts (text_of x (lent_after bytes lent)) a b) (sym (ap told e) ∙ is) p
 
-    pub accepted-puts : (x : Translation) (k : ℕ) → t ≡ Ok x → k ≡ min x.words (length ws)
-        → Puts (accepted_text (take k ws) x.body (listed x.sites)) a b
-        → Puts (text_of (translation bytes lent) (lent_after bytes lent)) a b
-    accepted-puts x k e k-is p =
-        let answer : accepted x.words x.body (listed x.sites) ≡ translation bytes lent = sym (ap told e) ∙ is in
-        let all : length (take x.words ws) ≡ x.words =
-        ap (λ l. length (take x.words l)) are ∙ all_there bytes lent x.words x.body (listed x.sites) (sym answer) in
-        subst (λ l. Puts l a b) (listing_is x.words k x.body ws (listed x.sites) all k-is ∙ ap₂ text_of answer are) p
+    module _ (x : Translation) (e : t ≡ Ok x) where
+      answer : accepted x.words x.body (listed x.sites) ≡ translation bytes lent
+      answer = sym (ap told e) ∙ is
+
+      all : length (take x.words ws) ≡ x.words
+      all =
+          ap (λ l. length (take x.words l)) are
+          ∙ all_there bytes lent x.words x.body (listed x.sites) (sym answer)
+
+      pub accepted-puts : (k : ℕ) → k ≡ min x.words (length ws) → Puts (accepted_text (take k ws) x.body (listed x.sites)) a b
+          → Puts (text_of (translation bytes lent) (lent_after bytes lent)) a b
+      accepted-puts k k-is p =
+          subst (λ l. Puts l a b) (listing_is x.words k x.body ws (listed x.sites) all k-is ∙ ap₂ text_of answer are) p

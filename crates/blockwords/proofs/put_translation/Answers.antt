@@ -10,7 +10,7 @@ unfolding answer_text lent
 returns-in-Ok-clause-placed c =
     let t = c.translate.ensures in
     let len : length c.translate.new.words ≡ 16384 = search rules in
-    accepted-puts _ _ _ _ _ _ t.answer t.words_after _ _ c.in-Ok.is (omega (arith, c.min-n.ensures, len))
+    accepted-puts _ _ _ _ _ _ t.answer t.words_after _ c.in-Ok.is _ (omega (arith, c.min-n.ensures, len))
     (rw c.as_slice.ensures.value at c.accepted.ensures)
 
 pub returns-in-Ok-clause-sited : goal.returns-in-Ok-clause-sited
