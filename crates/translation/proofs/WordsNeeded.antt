@@ -8,7 +8,7 @@ use Rattle.faults.specs.declared.Refusal.{Refusal}
 use Rattle.record.specs.Record.{reading, found}
 use Rattle.record.proofs.Accepted.{Bytes}
 use Rattle.lowering.specs.Compile.{block_words}
-use Rattle.finish.specs.declared.Finished.{Finished}
+use Rattle.finish.specs.declared.Short.{Short}
 use Rattle.finish.specs.Whole.{told, count_of}
 use Rattle.finish.proofs.Join.{count-told}
 use Rattle.answers.specs.WordsNeeded.{takes, need_behind, words_needed, Exact, Included}
@@ -32,7 +32,7 @@ module _ (bytes : List ℕ) (are : Bytes bytes) where
 
   -- a block, counted whatever is lent
   pub figured-words : (b : Block) → found (Ok b) ≡ reading bytes
-      → (lent : List ℕ) (fin : Finished) (n : ℕ) → fin ≡ told (block_words b) lent → n ≡ count_of fin → Figured bytes (Ok n)
+      → (lent : List ℕ) (fin : Result ℕ Short) (n : ℕ) → fin ≡ told (block_words b) lent → n ≡ count_of fin → Figured bytes (Ok n)
   unfolding words_needed need_behind
   figured-words b read lent fin n t k =
       figured bytes (Ok n) are (rw (← read) (ap takes (k ∙ ap count_of t ∙ count-told (block_words b) lent)))

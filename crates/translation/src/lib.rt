@@ -2,16 +2,13 @@
 #![tactic(auto)]
 
 ghost use Rattle.std.specs.Prelude.{◌≡◌};
-ghost use Rattle.lowering.specs.Compile.{zip_sites};
-ghost use Rattle.lower.specs.Lowers.{ats_of, targets_of};
 ghost use Rattle.answers.specs.Translation.{translation, lent_after};
 ghost use Rattle.answers.specs.Contract.{Sited, Runs, Meant};
 ghost use Rattle.answers.specs.WordsNeeded.{words_needed, Exact, Included};
-ghost use Rattle.translation.specs.Told.{listed, told, need_told};
+ghost use Rattle.translation.specs.Told.{told, need_told};
 
 use arrayvec::ArrayVec;
 use faults::{Fault, Refusal};
-use finish::Finished;
 use lowering::Site;
 
 // Chained blocks enter behind the opening words; in bytes.
@@ -23,23 +20,6 @@ pub struct Translation {
     pub words: u32,
     pub body: u32,
     pub sites: ArrayVec<Site, 2>,
-}
-
-// The sites as they are told, in the order in which they were emitted.
-fn listed_sites(s: lower::Sites) -> ArrayVec<Site, 2>
-    ensures { listed result ≡ zip_sites (ats_of s) (targets_of s) }
-{
-    let first = Site {
-        at: s.at[0],
-        target: s.target[0],
-    };
-    let second = Site {
-        at: s.at[1],
-        target: s.target[1],
-    };
-    let mut sites = ArrayVec::from_array_in((), [first, second]);
-    sites.truncate(s.n as usize);
-    sites
 }
 
 // The words of an accepted record's block, those beyond untouched, and its chain sites by rising word position, each once; or the first
@@ -59,12 +39,12 @@ pub fn translate(
         Ok(block) => {
             let c = compile::compile(words, table, block);
             match c.finished {
-                Finished::Words(n) => Ok(Translation {
+                Ok(n) => Ok(Translation {
                     words: n,
                     body: BODY,
-                    sites: listed_sites(c.sites),
+                    sites: c.sites,
                 }),
-                Finished::Short(_) => Err(Refusal {
+                Err(_) => Err(Refusal {
                     fault: Fault::Room,
                     place: bytes.len(),
                 }),

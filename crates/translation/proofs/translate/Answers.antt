@@ -2,7 +2,7 @@
 use mathlib.Core.Path.{ap₂, ◌∙◌}
 use native.Mathlib.Omega.{arith}
 use Rattle.lowering.specs.Compile.{zip_sites}
-use Rattle.translation.proofs.Answers.{met_fault, met_short, met_words}
+use Rattle.translation.proofs.Answers.{met_fault, met_short, met_words, zip-maps}
 use Rattle.translation.proofs.translate.Goals as goal
 
 pub returns-in-Err : goal.returns-in-Err
@@ -10,18 +10,18 @@ returns-in-Err c =
     let m = met_fault c.args.bytes.now _ _ (λ i. omega (arith, c.type_inv.bytes i)) c.in-Err.refusal c.in-Err.ensures.is_reading c.zero.ensures in
     record { answer = m.0; words_after = m.1.0; sited = m.1.1.0; runs = m.1.1.1.0; meant = m.1.1.1.1 }
 
-pub returns-in-Words : goal.returns-in-Words
-returns-in-Words c =
+pub returns-in-Ok-finished : goal.returns-in-Ok-finished
+returns-in-Ok-finished c =
     let k = c.compile-c.ensures c.in-Ok.ensures.checked in
     let m =
     met_words c.args.bytes.now _ _ (λ i. omega (arith, c.type_inv.bytes i)) c.in-Ok.block c.in-Ok.ensures.is_reading _
-    k.0 k.1 _ c.listed_sites.result c.in-Words.is (c.listed_sites.ensures ∙ ap₂ zip_sites k.2 k.3) in
+    k.0 k.1 _ c.compile-c.result.sites c.in-Ok-finished.is (zip-maps c.compile-c.result.sites.items ∙ ap₂ zip_sites k.2 k.3) in
     record { answer = m.0; words_after = m.1.0; sited = m.1.1.0; runs = m.1.1.1.0; meant = m.1.1.1.1 }
 
-pub returns-in-Short : goal.returns-in-Short
-returns-in-Short c =
+pub returns-in-Err-finished : goal.returns-in-Err-finished
+returns-in-Err-finished c =
     let k = c.compile-c.ensures c.in-Ok.ensures.checked in
     let m =
     met_short c.args.bytes.now _ _ (λ i. omega (arith, c.type_inv.bytes i)) c.in-Ok.block c.in-Ok.ensures.is_reading _
-    k.0 k.1 _ c.in-Short.is in
+    k.0 k.1 _ c.in-Err-finished.is in
     record { answer = m.0; words_after = m.1.0; sited = m.1.1.0; runs = m.1.1.1.0; meant = m.1.1.1.1 }
