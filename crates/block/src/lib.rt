@@ -415,7 +415,8 @@ pub struct Guard {
     pub h_ram_ok: u64,
 }
 
-// Field 04 is pc0. The first n of ops are the block's operations, the others are Nop.
+// Field 04 is pc0. The first n of ops are the block's operations, the others are Nop. An array and its count: a block is copied, and the
+// definitions (`ops_of`, `Checked`) read both.
 #[derive(Clone, Copy)]
 pub struct Block {
     pub layout: Layout,
@@ -427,7 +428,7 @@ pub struct Block {
     pub n: u32,
 }
 
-// The kinds that jump, by number: 30 to 39, PopPc and Tb.
+// The kinds that jump: 30 to 39, PopPc and Tb. A kind is the byte that a record holds, by the numbers of document 01's table.
 pub fn jumps(kind: u8) -> bool
     ensures { result ≡ jumping kind }
 {

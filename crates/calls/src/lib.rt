@@ -50,6 +50,7 @@ fn single(word: Result<u32, CallError>) -> Result<ArrayVec<u32, 4>, CallError> {
     Ok(words)
 }
 
+// A match, and no `TryFrom`: only a line of text names a condition by its number.
 fn cond(n: u64) -> Result<Cond, CallError> {
     match n {
         0 => Ok(Cond::Eq),

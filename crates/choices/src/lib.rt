@@ -36,7 +36,7 @@ enum Condition {
     Le = 13,
 }
 
-// An instruction with no operand to choose: its name and its registers.
+// An instruction with no operand to choose: its name and its registers. A case, and no closure: the definition (`instr_of`) names it.
 #[derive(Clone, Copy)]
 pub enum Fixed {
     Movz11,

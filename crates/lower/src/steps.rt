@@ -33,7 +33,7 @@ pub fn add_imm(asm: &mut Asm, d: u32, s: u32, v: u32)
     moves::add_imm(asm, d, s, v);
 }
 
-// w(t) = the field at an offset of the processor record, and back
+// w(t) = the field at an offset of the processor record, and back. Any offset may be asked for, so it is a number and no case of `Field`.
 pub fn ld_field(asm: &mut Asm, off: u32, t: u32)
     ensures { (g : Gen) (f : Field) → field_at g.lay f ≡ off → Lowers (Meant.ld_field f t ∷ []) asm.old g asm.new g }
 {

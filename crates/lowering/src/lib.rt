@@ -2,7 +2,8 @@
 #![tactic(auto)]
 
 // Guest registers kept in host registers within a block, by pool position: the guest register held (16: none), and whether memory is
-// behind. The order of the positions, least recently used first, tells which to give up when all are taken.
+// behind. The order of the positions, least recently used first, tells which to give up when all are taken. Three arrays, and not one of
+// slots: the definition (specs/Cache.antt) and the relation of demand 3 speak of each alone, and an order is of all eight.
 #[derive(Clone, Copy)]
 pub struct RegCache {
     pub guest: [u8; 8],

@@ -36,7 +36,8 @@ fn is_width(x: u32) -> bool
     (x == 1) | ((x == 2) | (x == 4))
 }
 
-// How many operands a kind has, and whether each is in its range.
+// How many operands a kind has, and whether each is in its range. No Option of the count: a wrong length is told (fault 2) before a number
+// out of range (4).
 #[derive(Clone, Copy)]
 pub struct Shape {
     pub count: usize,

@@ -22,6 +22,7 @@ pub fn moved(kind: u8, x: [u32; 6]) -> u32
     requires { kind < 50 }
     ensures { result ≡ moved_by (fast_of kind x) }
 {
+    // the arms of 41 and 42, 43 and 44 stand apart: joined by `|` three goals did not close
     match kind {
         40 => (x[1] % 65536).count_ones(),
         41 => saved_and(low(x[0])),
