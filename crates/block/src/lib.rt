@@ -65,9 +65,9 @@ pub enum Amount {
 // w: 1, 2 or 4 bytes
 #[derive(Clone, Copy)]
 pub enum Width {
-    Byte,
-    Half,
-    Word,
+    Byte = 1,
+    Half = 2,
+    Word = 4,
 }
 
 // rk, mk: what rv or mv is: a register's number, a number, or the number of a register that names a bit

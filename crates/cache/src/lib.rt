@@ -21,7 +21,7 @@ pub struct Spill {
     pub at: u32,
 }
 
-// The words of a load and of a store in the processor record, at an offset in words.
+// The words of a load and of a store in the processor record, at an offset in words: by the names of the instructions, as in the Rust.
 pub fn ldr(rt: u32, at: u32) -> u32
     ensures { result ≡ word_of (answer (MemoryImm Access.LdrW at CPU rt)) }
 {
@@ -34,7 +34,7 @@ pub fn str(rt: u32, at: u32) -> u32
     words::memory_imm(Access::StrW, at, 19, rt)
 }
 
-// The pool is w5 to w8 and w14 to w17.
+// The pool is w5 to w8 and w14 to w17. A slot is a number below 8, and no type of its own: flush and reload count through all eight.
 pub fn host(i: usize) -> u32
     requires { i < 8 }
     ensures { result ≡ host_of i }

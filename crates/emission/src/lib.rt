@@ -47,6 +47,7 @@ fn mov_of_size(asm: &mut Asm, size: Size, rd: u32, rm: u32)
     );
 }
 
+// By the names of the Rust.
 pub fn mov(asm: &mut Asm, rd: u32, rm: u32)
     ensures { Wrote asm.old (emitted (mov_of rd rm ∷ []) (state asm.old)) asm.new }
 {

@@ -177,6 +177,7 @@ pub fn addresses_of(p: &[u8]) -> Addresses
     }
 }
 
+// Place, tag and length are this field's: what it shares with the guard's is `field_fault`.
 pub fn addresses_field(s: &[u8]) -> Result<(), Fault>
     requires { 43 ≤ length s.now }
     ensures { fault_or_0 result ≡ addresses_field s.now }

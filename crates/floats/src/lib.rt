@@ -1,4 +1,4 @@
-// The encoders of jit_a64.rs that use the float registers: single-precision numbers.
+// The encoders of jit_a64.rs that use the float registers: single-precision numbers. Each is a public function of the Rust, by its name.
 #![tactic(auto)]
 
 ghost use Rattle.std.specs.Prelude.{◌≡◌};

@@ -54,7 +54,7 @@ fn set_base(asm: &mut Asm, g: &mut Gen, post: bool, down: bool, bytes: u32, r: u
     }
 }
 
-// Registers of a mask to memory or from it, from the base on or up to it, and the base last.
+// Registers of a mask to memory or from it, from the base on or up to it, and the base last. The flags are the operation's own.
 pub fn block_move(
     asm: &mut Asm,
     g: &mut Gen,

@@ -19,7 +19,7 @@ const CTX: u32 = 20;
 // Byte 40 of the context: its version.
 const OFF_VER: u32 = 40;
 
-// The condition equal.
+// The condition equal: a number, as `Asm::b_cond` takes it.
 const EQ: u32 = 0;
 
 fn ldr_x(asm: &mut Asm, rt: u32, rn: u32, off: u32)

@@ -60,6 +60,7 @@ pub struct Forked {
     pub target_at: u32,
 }
 
+// By the names of the instructions, as in the Rust.
 fn ldr(asm: &mut Asm, rt: u32, rn: u32, off: u32)
     ensures { Wrote asm.old (emitted (ldr_of rt rn off ∷ []) (state asm.old)) asm.new }
 {

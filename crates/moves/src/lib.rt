@@ -37,11 +37,7 @@ pub fn mov32(asm: &mut Asm, rd: u32, imm: u32)
 pub fn bytes(w: Width) -> u32
     ensures { result ≡ bytes_of w }
 {
-    match w {
-        Width::Byte => 1,
-        Width::Half => 2,
-        Width::Word => 4,
-    }
+    w as u32
 }
 
 // The last offset of a region of this length at which an access of so many bytes lies inside it.
@@ -51,7 +47,8 @@ pub fn room(len: u32, size: u32) -> u32
     len.saturating_sub(size)
 }
 
-// The load of a width, sign-extended or not.
+// The load of a width, sign-extended or not, and its store. No `From`: Width is the card's type and Access is Arm's, in crates that do not
+// know each other.
 #[tactic(auto, unfolding(lowering::specs::Fragments::loads))]
 pub fn loads(w: Width, signed: bool) -> Access
     ensures { result ≡ loads_of w signed }
