@@ -29,7 +29,7 @@ CLAIMS = (
 # The crates of each group; a crate in none of them stands in the last.
 GROUPS = (
     ("The Arm manual and the encoders", "arm words chain constants floats a64"),
-    ("The record", "block operands operation fields record"),
+    ("The record", "block faults operands operation fields record"),
     ("The lowering", "code lowering"),
     ("The card", "card"),
     ("The machine", "machine"),

@@ -13,22 +13,16 @@ work=$(mktemp -d)
 trap 'rm -rf "$work"' EXIT
 tar -C "$top" --exclude=out -cf - crates crates.txt | tar -C "$work" -xf -
 mkdir -p "$work/crates/walk/src"
-echo 'walk staticlib: compile record finish block' >>"$work/crates.txt"
+echo 'walk staticlib: arrayvec compile record finish faults block' >>"$work/crates.txt"
 cat >"$work/crates/walk/src/lib.rt" <<'END'
 // The words of a record's block where the walk over its patches stops behind `upto` of them; how many words it takes, 0 where it is refused.
 #![tactic(auto)]
 
 #[unsafe(no_mangle)]
 pub extern "C" fn walk_stop(bytes: &[u8], words: &mut [u32], table: &mut [u64; 6152], upto: u32) -> u32 {
-    let reading = record::read(bytes);
-    let answer = reading.answer;
-    match answer {
-        record::Answer::Refused(number, place) => 0,
-        record::Answer::Accepted => {
-            let c = compile::compile_to(words, table, reading.block, upto);
-            let finished = c.finished;
-            finish::count(finished)
-        }
+    match record::read(bytes) {
+        Ok(block) => finish::count(compile::compile_to(words, table, block, upto).finished),
+        Err(_) => 0,
     }
 }
 END

@@ -169,7 +169,7 @@ def main():
     taken = [c for c in cases(a.records) if len(c[2]) <= a.most]
     uses = "".join(f"use Rattle.{module}.{{{', '.join(names.split())}}}\n" for module, names in UNFOLDED.items())
     lost = list(refusals(a.records)) if a.refused else []
-    uses += "use Rattle.record.specs.declared.Answer.TheVariants.{Refused}\n" if lost else ""
+    uses += "use Rattle.record.specs.Record.{Refused}\n" if lost else ""
     os.makedirs(a.out, exist_ok=True)
     with open(os.path.join(a.out, "Words.antt"), "w") as f:
         f.write(HEAD + uses + HEX + "".join(equations(n, c, a.commit) for n, c in enumerate(taken)))

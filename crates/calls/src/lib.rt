@@ -1,5 +1,5 @@
 // The encoder that a name and its numbers call, by how many numbers there are. A name that stands at no arm of a `match` is looked for
-// in the function that the last arm calls.
+// in the function that the last arm calls. Operands are numbers in the order of the line: each encoder names them otherwise.
 #![tactic(auto)]
 
 ghost use Rattle.std.specs.Prelude.{◌≡◌};

@@ -87,7 +87,7 @@ fn assemble(asm: &mut Asm, b: &Block, upto: u32) -> Compiled
 {
     sized(asm.table);
     let sites = emit(asm, b);
-    let finished = finish::finish(asm, upto);
+    let finished = finish::finish(asm.words, asm.table, asm.counts, upto);
     Compiled { finished, sites }
 }
 

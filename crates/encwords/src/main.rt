@@ -7,7 +7,7 @@ mod answer;
 use std::io;
 use std::io::{Read, Write};
 
-// The line that is being read: how many of its bytes stand in the lent buffer, or none where it is too long for that.
+// The line that is being read: how many of its bytes stand in the lent buffer, or none where it is too long for that. No heap, so no Vec.
 #[derive(Drop)]
 struct Line<'a> {
     bytes: &'a mut [u8],

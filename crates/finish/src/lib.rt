@@ -4,12 +4,12 @@
 ghost use Rattle.std.specs.Prelude.{◌≡◌, ◌+◌, ◌*◌, ◌/◌, ◌%◌, ◌^◌, ◌<◌, ◌≤◌, slice_index, slice_set};
 ghost use Rattle.std.specs.Int.Signed.{mag};
 ghost use Rattle.code.specs.Items.{dist, halves, pad_of, base_of};
-ghost use Rattle.asm.specs.State.{literal_room, fixup_room, parts, state, Wrote, at_most, literals_from};
+ghost use Rattle.asm.specs.State.{literal_room, fixup_room, parts, at_most, literals_from};
 ghost use Rattle.finish.specs.Finish.{field_of, patch_in, field_in, label_in, lead_in, patched_at, patched_to};
 ghost use Rattle.finish.specs.Finish.{write, zeros, finished, finished_words};
 ghost use Rattle.finish.specs.Whole.{count_of};
 
-use asm::{Asm, Label, Reference};
+use asm::{Counts, Label, Reference};
 use code::Fix;
 
 // Fewer words are lent than a block takes, which is so many.
@@ -184,28 +184,23 @@ pub fn zero(words: &mut [u32])
 
 // The lent words are the block's behind the first `upto` patches, or behind all where there are fewer, with those beyond the block
 // untouched; or all 0 where they are too few.
-pub fn finish(asm: &mut Asm, upto: u32) -> Result<u32, Short>
-    ensures told { result ≡ finished (state asm.old) }
-    ensures wrote { Wrote asm.old (parts (finished_words upto (state asm.old)) asm.old.table.now asm.old.counts) asm.new }
+pub fn finish(
+    words: &mut [u32],
+    table: &[u64; asm::TABLE],
+    counts: Counts,
+    upto: u32,
+) -> Result<u32, Short>
+    ensures told { result ≡ finished (parts words.old table.now counts) }
+    ensures words_after { words.new ≡ finished_words upto (parts words.old table.now counts) }
 {
-    let k = asm::at_most(asm::LITERALS, asm.counts.literals);
-    let base = pad(
-        asm.words,
-        asm.table,
-        asm::at_most(1048576, asm.counts.at),
-        k,
-    );
-    pool(asm.words, asm.table, base, k);
+    let k = asm::at_most(asm::LITERALS, counts.literals);
+    let base = pad(words, table, asm::at_most(1048576, counts.at), k);
+    pool(words, table, base, k);
     let total = base + 2 * k;
-    if asm.words.len() < (total as usize) {
-        zero(asm.words);
+    if words.len() < (total as usize) {
+        zero(words);
         return Err(Short(total));
     }
-    patch_to(
-        asm.words,
-        asm.table,
-        base,
-        asm::at_most(asm.counts.fixups, upto),
-    );
+    patch_to(words, table, base, asm::at_most(counts.fixups, upto));
     Ok(total)
 }

@@ -74,7 +74,7 @@ pub fn block_move(
     set_base(asm, g, post, down, bytes, base);
 }
 
-// ---- PushRets and PopPc
+// ---- PushRets and PopPc: a push and a pop take other steps, in another order, so they are no twins
 // Register r to the stack.
 fn push_reg(asm: &mut Asm, g: &mut Gen, i: u32, r: u8)
     ensures { Lowers (push false i (Meant.ld_reg 1 r)) asm.old g.old asm.new g.new }

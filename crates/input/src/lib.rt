@@ -41,6 +41,7 @@ pub fn read_whole<R: Read>(from: &mut R, buf: &mut [u8]) -> io::Result<Option<us
 }
 
 // Reads until the buffer is full or the input ends, and answers how many bytes it put at the buffer's start.
+// It counts its turns as `read_whole` does.
 pub fn read_full<R: Read>(from: &mut R, buf: &mut [u8]) -> io::Result<usize>
     ensures in_bounds { IfOk result (λ n. n ≤ length buf.new) }
     ensures bytes { IfOk result (λ n. Consumes (R.remaining from.old) (R.remaining from.new) (take n buf.new)) }

@@ -51,6 +51,7 @@ pub fn accepted(out: &mut Buffer, words: &[u32], body: u32, sites: &[Site])
     put_sites(out, sites);
 }
 
+// Of any number, not of a `Refusal` alone.
 pub fn refused(out: &mut Buffer, number: u32, place: usize)
     ensures { Puts (refused number place) out.old out.new }
 {

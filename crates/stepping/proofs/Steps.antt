@@ -67,8 +67,8 @@ unfolding starts_t map_test
 map-starts false e x s = refl
 map-starts true e x s = refl
 
-module _ (blk : Block) (rc : RegCache) (s : State) where
-  no_start : (x : Step) → targets (x ∷ []) ≡ [] → starts_t (step_code blk rc x) nowhere 0 s ≡ []
+module _ (blk : Block) (rc : RegCache) {n : Depth} (v : Var n → ℕ) (k : ℕ) (s : State) where
+  pub no_start : (x : Step) → targets (x ∷ []) ≡ [] → starts_t (step_code blk rc {n = n} x) v k s ≡ []
   unfolding starts_t step_code load try_region store ind brk_first check_brk limit guard call exit_imm
   no_start (Step.store w alone i) e = simp (align_starts, map-starts)
   no_start (Step.chain pc count) e = cc
@@ -92,7 +92,7 @@ code_done x s =
 
 pub still_done : (x : Step) (s : Generated) → targets (x ∷ []) ≡ [] → step_done x s ≡ code_done x s
 unfolding step_done kept
-still_done x s e = ap₂ (λ ps ts. record (code_done x s) { ats = kept s.ats ps; targets = kept s.targets ts }) (no_start s.given s.cache s.code x e) e
+still_done x s e = ap₂ (λ ps ts. record (code_done x s) { ats = kept s.ats ps; targets = kept s.targets ts }) (no_start s.given s.cache nowhere 0 s.code x e) e
 
 -- ---- WHAT A LIST OF STEPS LEAVES
 module _ (w t : GName) (blk : Block) where

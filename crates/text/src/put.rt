@@ -3,7 +3,8 @@ ghost use Rattle.std.specs.Prelude.{◌≡◌, ◌∷◌, [], ◌++◌, length, 
 ghost use Rattle.std.proofs.lemmas.List.Edits.{sets};
 ghost use Rattle.text.specs.Put.{Ahead, hex8, decimal, Kept, separator_of, rows};
 
-// Puts bytes at `at`, as far as there is room, and answers the position behind them.
+// Puts bytes at `at`, as far as there is room, and answers the position behind them: a slice and a position, so that a fact of one call is
+// known before the lent buffer is.
 fn put_at(out: &mut [u8], at: usize, bytes: &[u8]) -> usize
     ensures written { out.new ≡ sets out.old at bytes.now }
     ensures end { Ahead at (length bytes.now) (length out.old) result }
@@ -16,7 +17,7 @@ fn put_at(out: &mut [u8], at: usize, bytes: &[u8]) -> usize
     at + n
 }
 
-// A lent buffer, and how much of it is written.
+// A lent buffer, and how much of it is written: no heap here, so it is not a Vec.
 #[derive(Drop)]
 pub struct Buffer<'a> {
     pub out: &'a mut [u8],

@@ -10,6 +10,7 @@ fn is_blank(b: u8) -> bool
     matches!(b, b' ' | 9..=13)
 }
 
+// A search stands in a function of its own: behind a `?` in one function what it found would not be known.
 fn line_end(s: &[u8]) -> Option<usize>
     ensures { result ≡ position line_feed s.now }
 {

@@ -66,6 +66,5 @@ pub fn words_needed(bytes: &[u8], table: &mut [u64; 6152]) -> Result<u32, Refusa
 {
     let block = record::read(bytes)?;
     let c = compile::compile(&mut [], table, block);
-    let n = finish::count(c.finished);
-    Ok(n)
+    Ok(finish::count(c.finished))
 }

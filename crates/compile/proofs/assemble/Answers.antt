@@ -12,8 +12,8 @@ returns c =
     let h = c.emit-sites.ensures in
     let full = c.sized.ensures in
     let f = c.finish-finished.ensures in
-    let walked : Checked c.args.b.now → c.finish-finished.new.asm.words.now ≡ laid (walked_words c.args.upto (block_lines c.args.b.now)) c.args.asm.now.words.now =
-    λ ck. ap (λ (s : State). s.words) f.wrote.code ∙ walked_are _ ck c.requires full _ h _ in
+    let walked : Checked c.args.b.now → c.finish-finished.new.words ≡ laid (walked_words c.args.upto (block_lines c.args.b.now)) c.args.asm.now.words.now =
+    λ ck. f.words_after ∙ walked_are _ ck c.requires full _ h _ in
     record {
       walked = λ ck. (
         f.told ∙ told_is _ ck c.requires full _ h,
@@ -22,6 +22,6 @@ returns c =
         targets_are _ ck c.requires full _ h,
       );
       one_walk = λ ck fits. one_walk_is _ _ _ _ (walked ck) fits;
-      words = f.wrote.words ∙ h.wrote.words;
-      table = f.wrote.table ∙ h.wrote.table;
+      words = h.wrote.words;
+      table = h.wrote.table;
     }

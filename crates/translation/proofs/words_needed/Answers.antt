@@ -11,5 +11,5 @@ returns-in_err-block c =
 pub returns : goal.returns
 returns c =
     let words = (c.compile-c.ensures c.in_ok-block.ensures.checked).0 in
-    let f = figured-words c.args.bytes.now (λ i. omega (arith, c.type_inv.bytes i)) _ c.in_ok-block.ensures.is_reading _ _ _ words c.count-n.ensures in
+    let f = figured-words c.args.bytes.now (λ i. omega (arith, c.type_inv.bytes i)) _ c.in_ok-block.ensures.is_reading _ _ _ words c.count.ensures in
     record { answer = f.0; exact = f.1.0; included = f.1.1 }
