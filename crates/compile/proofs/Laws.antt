@@ -108,7 +108,10 @@ module _ (blk : Block) (ck : Checked blk) {a b : Asm} (z : a.counts ≡ begin) (
   told_is = whole-told blk ck a.words.now a.table.now (first a) first_is full _ _ (state b) refl refl h.wrote.code
 
   pub ats_are : ats_of sites ≡ starts (block_code blk) 0
-  ats_are = h.ats ∙ ap (kept []) (whole-starts blk ck a.words.now a.table.now (first a) first_is) ∙ kept-few (starts (block_code blk) 0) (rw (sited blk).all (sited blk).two)
+  ats_are =
+      let all = whole-starts blk ck a.words.now a.table.now (first a) first_is in
+      let two = kept-few (starts (block_code blk) 0) (rw (sited blk).all (sited blk).two) in
+      h.ats ∙ ap (kept []) all ∙ two
 
   pub targets_are : targets_of sites ≡ targets (block_steps blk)
   targets_are = h.targets ∙ kept-few (targets (block_steps blk)) (sited blk).two

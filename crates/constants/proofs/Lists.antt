@@ -1,16 +1,24 @@
 -- Answers of several words, piece by piece. Assumes nothing.
-use Rattle.std.proofs.Common.{◌≡◌, ℕ, Bool, true, false, List, [], ◌∷◌, ◌++◌, sym, refl, ap, ◌∙◌, arith, append_assoc}
+use Rattle.std.proofs.Common.{◌≡◌, ◌<◌, ℕ, Bool, true, false, List, [], ◌∷◌, ◌++◌, sym, refl, ap, ◌∙◌, arith, append_assoc, nat_lt, lt-ltb}
 use Rattle.std.specs.Prelude.{Result, Ok, Err, IsErrAnd}
 use Rattle.std.proofs.lemmas.Result.{err_from_is_err_and}
 use Rattle.arrayvec.specs.ArrayVec.{ArrayVec}
 use Rattle.arm.specs.declared.Instr.{Instr}
 use Rattle.arm.specs.Instr.{encode, Carried}
+use Rattle.arm.specs.Decode.{both}
 use Rattle.words.specs.declared.EncodeError.{EncodeError}
 use Rattle.words.specs.declared.EncodeError.TheVariants.{Reach, Unaligned, Operand}
 use Rattle.words.specs.Answers.{answer, word_of, Told, accepted, refused}
 use Rattle.constants.specs.Constants.{words_of}
 use Rattle.constants.specs.Sequences.{told_words, words_if}
 use Rattle.words.proofs.Answers.{carried-word, error_of}
+
+-- ---- registers that are there
+pub two_fit : {x y : ℕ} → x < 32 → y < 32 → both (nat_lt x 32) (nat_lt y 32) ≡ true
+two_fit {x} {y} p q = simp (lt-ltb x 32 p, lt-ltb y 32 q)
+
+pub three_fit : {x y z : ℕ} → x < 32 → y < 32 → z < 32 → both (nat_lt x 32) (both (nat_lt y 32) (nat_lt z 32)) ≡ true
+three_fit {x} {y} {z} p q r = simp (lt-ltb x 32 p, lt-ltb y 32 q, lt-ltb z 32 r)
 
 -- the word of an instruction that carries its operands
 pub word_is : (i : Instr) {w : ℕ} → w ≡ word_of (answer i) → Carried i → w ≡ encode i

@@ -4,7 +4,9 @@ use Rattle.constants.proofs.Lists.{word_is, refuses, gives, one, two}
 use Rattle.constants.proofs.mov32.Goals as goal
 
 pub returns-in_err-below-clause-words : goal.returns-in_err-below-clause-words
-returns-in_err-below-clause-words c = refuses _ _ _ _ c.from_residual.ensures.1 c.in_err-below.ensures.0 (le-ltb c.args.rd 32 c.in_err-below.ensures.1)
+returns-in_err-below-clause-words c =
+    let rd = le-ltb c.args.rd 32 c.in_err-below.ensures.1 in
+    refuses _ _ _ _ c.from_residual.ensures.1 c.in_err-below.ensures.0 rd
 
 pub returns-then-high-eq0-clause-words : goal.returns-then-high-eq0-clause-words
 returns-then-high-eq0-clause-words c = let a = c.args in

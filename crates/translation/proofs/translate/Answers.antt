@@ -7,7 +7,8 @@ use Rattle.translation.proofs.translate.Goals as goal
 
 pub returns-in-Err : goal.returns-in-Err
 returns-in-Err c =
-    let m = met_fault c.args.bytes.now _ _ (λ i. omega (arith, c.type_inv.bytes i)) c.in-Err.refusal c.in-Err.ensures.is_reading c.zero.ensures in
+    let e = c.in-Err.ensures.is_reading in
+    let m = met_fault c.args.bytes.now _ _ (λ i. omega (arith, c.type_inv.bytes i)) c.in-Err.refusal e c.zero.ensures in
     record { answer = m.0; words_after = m.1.0; sited = m.1.1.0; runs = m.1.1.1.0; meant = m.1.1.1.1 }
 
 pub returns-in-Ok-finished : goal.returns-in-Ok-finished
