@@ -1,6 +1,7 @@
 // A case: a record with the answer that it must get.
 use faults::Refusal;
-use translation::Translation;
+use lowering::Site;
+use translation::{Sites, Translation};
 
 // Where the numbers of a case stand, in bytes: those of the answers follow each other from the fault's number on.
 pub const FAULT: usize = 4;
@@ -34,11 +35,16 @@ fn numbers(
         Ok(t) => {
             n[2] = u64::from(t.words);
             n[3] = u64::from(t.body);
-            n[4] = t.sites.len() as u64;
-            for (i, site) in t.sites.as_slice().iter().enumerate() {
-                n[5 + 2 * i] = u64::from(site.at);
-                n[6 + 2 * i] = u64::from(site.target);
-            }
+            let (count, first, second) = match t.sites {
+                Sites::None => (0, Site::default(), Site::default()),
+                Sites::One(s) => (1, s, Site::default()),
+                Sites::Two(s, u) => (2, s, u),
+            };
+            n[4] = count;
+            n[5] = u64::from(first.at);
+            n[6] = u64::from(first.target);
+            n[7] = u64::from(second.at);
+            n[8] = u64::from(second.target);
         }
         Err(refusal) => {
             n[0] = u64::from(u32::from(refusal.fault));

@@ -2,6 +2,8 @@
 #![tactic(auto)]
 
 ghost use Rattle.text.specs.Buffer.{Puts};
+ghost use Rattle.listing.specs.Listing.{accepted};
+ghost use Rattle.translation.specs.Told.{listed};
 ghost use Rattle.answers.specs.Translation.{translation};
 ghost use Rattle.answers.specs.Contract.{Sited};
 ghost use Rattle.blockwords.specs.Text.{lent, answer_text};
@@ -9,11 +11,23 @@ ghost use Rattle.blockwords.specs.Text.{lent, answer_text};
 use std::io;
 use std::io::{Read, Write};
 use text::Buffer;
+use translation::Sites;
 
 const LENT: usize = 16384;
 
 // Nine bytes a word, and the lines of the counts and of two sites.
 const ROOM: usize = 147584;
+
+// The listing of an accepted record's words, with the sites that there are.
+fn put_listing(out: &mut Buffer, words: &[u32], body: u32, sites: Sites)
+    ensures { Puts (accepted words.now body (listed sites)) out.old out.new }
+{
+    match sites {
+        Sites::None => listing::accepted(out, words, body, &[]),
+        Sites::One(s) => listing::accepted(out, words, body, &[s]),
+        Sites::Two(s, u) => listing::accepted(out, words, body, &[s, u]),
+    }
+}
 
 // The listing of a record's words, its sites by rising word position (the second clause, of the answer that is listed), or why it is
 // refused.
@@ -26,7 +40,7 @@ fn put_translation(out: &mut Buffer, bytes: &[u8])
     match translation::translate(bytes, &mut words, &mut table) {
         Ok(t) => {
             let n = (t.words as usize).min(words.len());
-            listing::accepted(out, &words[..n], t.body, t.sites.as_slice());
+            put_listing(out, &words[..n], t.body, t.sites);
         }
         Err(refusal) => listing::refused(out, u32::from(refusal.fault), refusal.place),
     }

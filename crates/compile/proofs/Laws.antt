@@ -16,14 +16,13 @@ use Rattle.lowering.specs.Fragments.{steps_code, opening, closing}
 use Rattle.lowering.specs.Steps.{Step, ops_steps, guard_steps, block_steps}
 use Rattle.lowering.specs.Compile.{block_code, block_lines, block_words, starts, targets}
 use Rattle.lowering.specs.Given.{given}
-use Rattle.lowering.specs.declared.Site.{Site}
-use Rattle.arrayvec.specs.ArrayVec.{ArrayVec}
 use Rattle.asm.specs.declared.Asm.{Asm}
 use Rattle.asm.specs.declared.Counts.{Counts}
 use Rattle.asm.specs.declared.Label.{Label}
 use Rattle.asm.specs.State.{fixup_room, table_room, parts, state, begin, label_of, put, Wrote}
 use Rattle.asm.proofs.Wrote.{wrote-then, wrote-as}
 use Rattle.emission.specs.declared.Gen.{Gen}
+use Rattle.emission.specs.declared.Sites.{Sites}
 use Rattle.emission.specs.Gen.{given_of}
 use Rattle.emission.specs.Total.{emitted, after_t, starts_t}
 use Rattle.emission.proofs.After.{code-after, then-after, then-starts}
@@ -97,7 +96,7 @@ module _ (blk : Block) (a a₁ a₂ a₃ a₄ a₅ : Asm) (q o p r : Gen) (z : a
 
 -- ---- `assemble`
 module _ (blk : Block) (ck : Checked blk) {a b : Asm} (z : a.counts ≡ begin) (full : length a.table.now ≡ table_room)
-    (sites : ArrayVec Site) (h : Emits blk a b sites) where
+    (sites : Sites) (h : Emits blk a b sites) where
   first_is : first a ≡ put new (parts a.words.now a.table.now begin)
   first_is = ap (λ c. put new (parts a.words.now a.table.now c)) z
 

@@ -14,17 +14,16 @@ ghost use Rattle.finish.specs.Whole.{laid, told};
 ghost use Rattle.lower.specs.Lowers.{ats_of, targets_of, Lowers};
 ghost use Rattle.compile.specs.Emitted.{Emits};
 
-use arrayvec::ArrayVec;
 use asm::Asm;
 use block::{Block, Guard};
-use emission::Gen;
+use emission::{Gen, Sites};
 use finish::Short;
-use lowering::{RegCache, Site};
+use lowering::RegCache;
 
-#[derive(Drop)]
+#[derive(Clone, Copy)]
 pub struct Compiled {
     pub finished: Result<u32, Short>,
-    pub sites: ArrayVec<Site, 2>,
+    pub sites: Sites,
 }
 
 // No guest register is held.
@@ -49,7 +48,7 @@ fn guarded(asm: &mut Asm, g: &Gen, guard: Guard, pc: u32)
 }
 
 // Every word of a block, the distances still 0; its chain sites.
-fn emit(asm: &mut Asm, b: &Block) -> ArrayVec<Site, 2>
+fn emit(asm: &mut Asm, b: &Block) -> Sites
     requires { asm.old.counts ≡ begin }
     ensures { Emits b.now asm.old asm.new result }
 {
@@ -58,7 +57,7 @@ fn emit(asm: &mut Asm, b: &Block) -> ArrayVec<Site, 2>
         mem: b.memory,
         addr: b.addresses,
         rc: empty(),
-        sites: ArrayVec::new(),
+        sites: Sites::None,
     };
     let exit = asm.new_label();
     jumps::opening(asm);

@@ -1,3 +1,4 @@
 pub mod Total
 pub mod Gen
 pub mod Emits
+pub mod Sites

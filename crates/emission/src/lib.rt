@@ -13,21 +13,28 @@ ghost use Rattle.emission.specs.Total.{emitted, at_place as moved_at_place, seat
 ghost use Rattle.emission.specs.Gen.{with_cache};
 
 use arm::{Access, AddSub, Flags, Logic, Second, Shift, Size};
-use arrayvec::ArrayVec;
 use asm::Asm;
 use block::{Addresses, Layout, Memory};
 use cache::Spill;
 use lowering::{RegCache, Site};
 
+// The chain sites of a block, at most two, by rising word position. No ArrayVec: what holds one cannot be copied.
+#[derive(Clone, Copy)]
+pub enum Sites {
+    None,
+    One(Site),
+    Two(Site, Site),
+}
+
 // What the methods of `Gen` are given of a block, its register cache, and its chain sites so far. The assembler is passed beside it:
 // a struct around one would no longer say what the lent words end as. So the methods are functions of both.
-#[derive(Drop)]
+#[derive(Clone, Copy)]
 pub struct Gen {
     pub lay: Layout,
     pub mem: Memory,
     pub addr: Addresses,
     pub rc: RegCache,
-    pub sites: ArrayVec<Site, 2>,
+    pub sites: Sites,
 }
 
 // One instruction by its word, which is 0 for one that no word carries.

@@ -24,12 +24,12 @@ use Rattle.emission.proofs.Writes.{writes-nothing, writes-more, writes-code, wri
 use Rattle.jumps.specs.Parts.{leave, back, lookup}
 
 -- ---- the sites of a block, and these sites and then those
-block-sites : {n : Depth} (e : Var n → ℕ) (c : Code (under n)) (ps : List ℕ) {l : Label} {a a₁ : Asm} → l ≡ label_of a.counts.labels → Puts a new a₁
+pub block-sites : {n : Depth} (e : Var n → ℕ) (c : Code (under n)) (ps : List ℕ) {l : Label} {a a₁ : Asm} → l ≡ label_of a.counts.labels → Puts a new a₁
     → ps ≡ starts_t c (inside l.0 e) 0 (state a₁) → ps ≡ starts_t (block c) e 0 (state a)
 unfolding starts_t put_t
 block-sites e c ps m p h = h ∙ ap₂ (λ (k : Label) s. starts_t c (inside k.0 e) 0 s) m p.code
 
-then-sites : {n : Depth} (e : Var n → ℕ) (c d : Code n) (ps qs : List ℕ) {a a₁ : Asm} → Codes e a c a₁ → ps ≡ starts_t c e 0 (state a)
+pub then-sites : {n : Depth} (e : Var n → ℕ) (c d : Code n) (ps qs : List ℕ) {a a₁ : Asm} → Codes e a c a₁ → ps ≡ starts_t c e 0 (state a)
     → qs ≡ starts_t d e 0 (state a₁) → ps ++ qs ≡ starts_t (c then d) e 0 (state a)
 then-sites e c d ps qs {a} {a₁} p h k = ap₂ ◌++◌ h k ∙ sym (then-starts e 0 c d (state a) (state a₁) p.code)
 

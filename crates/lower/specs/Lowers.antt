@@ -1,26 +1,26 @@
 -- What lowering a list of steps leaves: the words, the register cache, and the chain sites.
 use Rattle.std.specs.Prelude.{◌≡◌, List, ℕ, map}
-use Rattle.arrayvec.specs.ArrayVec.{ArrayVec}
 use Rattle.code.specs.Tree.{nowhere}
-use Rattle.lowering.specs.declared.Site.{Site}
 use Rattle.lowering.specs.Steps.{Step}
 use Rattle.lowering.specs.Fragments.{steps_code}
 use Rattle.lowering.specs.Compile.{targets}
 use Rattle.asm.specs.declared.Asm.{Asm}
 use Rattle.asm.specs.State.{state, Wrote}
 use Rattle.emission.specs.declared.Gen.{Gen}
+use Rattle.emission.specs.declared.Sites.{Sites}
 use Rattle.emission.specs.Gen.{given_of}
+use Rattle.emission.specs.Sites.{listed}
 use Rattle.emission.specs.Total.{after_t, starts_t}
 use Rattle.stepping.specs.Behind.{cache_behind}
 use Rattle.stepping.specs.Done.{Generated, steps_done}
 pub use Rattle.stepping.specs.Done.{kept}
 
 -- the sites' positions, and the guest addresses that they go on at
-abbrev pub ats_of : ArrayVec Site → List ℕ
-ats_of s = map (λ x. x.at) s.items
+abbrev pub ats_of : Sites → List ℕ
+ats_of s = map (λ x. x.at) (listed s)
 
-abbrev pub targets_of : ArrayVec Site → List ℕ
-targets_of s = map (λ x. x.target) s.items
+abbrev pub targets_of : Sites → List ℕ
+targets_of s = map (λ x. x.target) (listed s)
 
 -- what an assembler and a generator have so far
 unfoldable pub generated : Asm → Gen → Generated

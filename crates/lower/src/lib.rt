@@ -15,6 +15,7 @@ use asm::Asm;
 use block::{Base, Choice, Cond, Op, Part, Rk};
 use choices::Fixed;
 use emission::Gen;
+pub use emission::Sites;
 pub use sites::{chain, fork_if};
 use steps::ins;
 pub use steps::{

@@ -5,18 +5,22 @@ ghost use Rattle.std.specs.Prelude.{◌≡◌, [], ◌∷◌};
 ghost use Rattle.lowering.specs.Steps.{Step as Meant, acond as acond_of};
 ghost use Rattle.lower.specs.Lowers.{ats_of, targets_of, kept, Lowers};
 
-use arrayvec::ArrayVec;
 use asm::Asm;
 use block::Cond;
-use emission::Gen;
+use emission::{Gen, Sites};
 use lowering::Site;
 
 // One site more; a third would be left out.
-fn site(sites: &mut ArrayVec<Site, 2>, at: u32, target: u32)
+fn site(sites: &mut Sites, at: u32, target: u32)
     ensures ats { ats_of sites.new ≡ kept (ats_of sites.old) (at ∷ []) }
     ensures targets { targets_of sites.new ≡ kept (targets_of sites.old) (target ∷ []) }
 {
-    let _ = sites.try_push(Site { at, target });
+    let last = Site { at, target };
+    *sites = match *sites {
+        Sites::None => Sites::One(last),
+        Sites::One(first) => Sites::Two(first, last),
+        Sites::Two(first, second) => Sites::Two(first, second),
+    };
 }
 
 pub fn chain(asm: &mut Asm, g: &mut Gen, pc: u32, count: u32)

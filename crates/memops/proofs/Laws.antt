@@ -21,9 +21,10 @@ use Rattle.lowering.specs.Instrs.{CTX, RAM, XIP, FLAGS, DONE, HI, mov, mov_x, mo
 use Rattle.lowering.specs.Fragments.{even, loads, stores, extended, try_region, align_test, map_test, call, load, store}
 use Rattle.asm.specs.declared.Asm.{Asm}
 use Rattle.asm.specs.declared.Label.{Label}
-use Rattle.asm.specs.State.{label_of}
-use Rattle.emission.specs.Total.{after_t}
+use Rattle.asm.specs.State.{State, label_of}
+use Rattle.emission.specs.Total.{emitted, after_t}
 use Rattle.emission.specs.Emits.{Emits, Puts, Codes}
+use Rattle.emission.proofs.After.{more, same, code-after, then-after}
 use Rattle.emission.proofs.Writes.{writes-nothing, writes-more, writes-same, writes-code, writes-lit, writes-to, writes-then, writes-block}
 use Rattle.memops.specs.Pieces.{by_read, ram_store, by_write}
 
@@ -68,6 +69,17 @@ module _ (blk : Block) (rc : RegCache) where
       (writes-more (mov 1 0 ∷ []) _ p₁
       (writes-more (mov_x 0 CTX ∷ []) _ p₂ (writes-more (add_i 2 DONE i ∷ []) _ p₃ (writes-same (ap (mov32 3) ks) p₄)))))
       (writes-then nowhere 0 _ _ p₅ (writes-code nowhere 0 _ p₆))
+
+  -- the same of states, whatever room they are in
+  pub by_read_lem : (f k : ℕ) (w : Width) (signed : Bool) (i : ℕ) (s s₁ s₂ s₃ s₄ s₅ s₆ : State) → k ≡ bytes w
+      → s₁ ≡ emitted (mov 1 0 ∷ []) s → s₂ ≡ emitted (mov_x 0 CTX ∷ []) s₁ → s₃ ≡ emitted (add_i 2 DONE i ∷ []) s₂ → s₄ ≡ emitted (mov32 3 k) s₃
+      → s₅ ≡ after_t (call blk rc f) nowhere 0 s₄ → s₆ ≡ emitted (extended w signed) s₅ → s₆ ≡ after_t (by_read blk rc f w signed i) nowhere 0 s
+  by_read_lem f k w signed i s s₁ s₂ s₃ s₄ s₅ s₆ ks p₁ p₂ p₃ p₄ p₅ p₆ =
+      then-after nowhere 0 _ _ s s₄ s₆
+      (code-after nowhere 0 _ s s₄
+      (more (mov 1 0 ∷ []) _ s s₁ s₄ p₁
+      (more (mov_x 0 CTX ∷ []) _ s₁ s₂ s₄ p₂ (more (add_i 2 DONE i ∷ []) _ s₂ s₃ s₄ p₃ (same _ _ s₃ s₄ (ap (mov32 3) ks) p₄)))))
+      (then-after nowhere 0 _ _ s₄ s₅ s₆ p₅ (code-after nowhere 0 _ s₅ s₆ p₆))
 
   pub write-helper : (f k : ℕ) (w : Width) (i : ℕ) {a a₁ a₂ a₃ a₄ a₅ a₆ : Asm} → k ≡ bytes w
       → Emits a (mov 2 1 ∷ []) a₁ → Emits a₁ (mov 1 0 ∷ []) a₂ → Emits a₂ (mov_x 0 CTX ∷ []) a₃ → Emits a₃ (add_i 3 DONE i ∷ []) a₄

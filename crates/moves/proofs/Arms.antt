@@ -1,7 +1,8 @@
 -- The instructions of each branch are the definition's.
-use Rattle.std.proofs.Common.{◌≡◌, refl, ℕ, ◌-◌, ◌/◌, ◌%◌, ◌<◌, ◌≤◌, Bool, false, [], ◌∷◌, ◌++◌, le-ltb, lt-ltb, eq-eqb, ne_eqb}
+use Rattle.std.proofs.Common.{◌≡◌, refl, sym, ap, ◌∙◌, ℕ, ◌-◌, ◌/◌, ◌%◌, ◌<◌, ◌≤◌, Bool, true, false, List, [], ◌∷◌, ◌++◌, le-ltb, lt-ltb, eq-eqb, ne_eqb}
 use Rattle.arm.specs.declared.Size.TheVariants.{W}
 use Rattle.arm.specs.declared.Move.TheVariants.{Movn, Movz, Movk}
+use Rattle.arm.specs.declared.Instr.{Instr}
 use Rattle.arm.specs.declared.Instr.TheVariants.{MoveWide}
 use Rattle.block.specs.declared.Width.{Width}
 use Rattle.block.specs.declared.Width.TheVariants.{Byte as B8, Half as B16, Word as B32}
@@ -31,6 +32,10 @@ unfolding even
 even_none B8 n = refl
 even_none B16 n = absurd (n refl)
 even_none B32 n = refl
+
+pub extended-arm : (w p : Width) (u : Bool) (xs : List Instr) → w ≡ p → u ≡ true → xs ≡ extended p true → xs ≡ extended w u
+extended-arm w p true xs e f h = h ∙ ap (λ q. extended q true) (sym e)
+extended-arm w p false xs e f h = cc
 
 pub extended_none : (w : Width) (u : Bool) → u ≡ false → [] ≡ extended w u
 unfolding extended

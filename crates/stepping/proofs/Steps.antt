@@ -37,10 +37,44 @@ module _ (blk : Block) where
   given-steps rc (s ∷ ss) = ap₂ ◌then◌ (given-step rc s) (given-steps (step_cache rc s) ss)
 
 -- ---- these steps and then those
+pub cache-append : (rc : RegCache) (xs ys : List Step) → cache_behind rc (xs ++ ys) ≡ cache_behind (cache_behind rc xs) ys
+unfolding cache_behind
+cache-append rc [] ys = refl
+cache-append rc (x ∷ xs) ys = cache-append (step_cache rc x) xs ys
+
 pub steps_append : (xs ys : List Step) (s : Generated) → steps_done (xs ++ ys) s ≡ steps_done ys (steps_done xs s)
 unfolding steps_done
 steps_append [] ys s = refl
 steps_append (x ∷ xs) ys s = steps_append xs ys (step_done x s)
+
+-- ---- their code and its starts, all of them
+then_is : (c d : Code top) (s : State) → after_t (c then d) nowhere 0 s ≡ after_t d nowhere 0 (after_t c nowhere 0 s)
+then_is c d s = sym (then-after nowhere 0 c d s (after_t c nowhere 0 s) (after_t d nowhere 0 (after_t c nowhere 0 s)) refl refl)
+
+module _ (blk : Block) where
+  steps_then : (rc : RegCache) (xs ys : List Step) (s : State) → after_t (steps_code blk rc (xs ++ ys)) nowhere 0 s ≡ after_t (steps_code blk (cache_behind rc xs) ys) nowhere 0 (after_t (steps_code blk rc xs) nowhere 0 s)
+  unfolding steps_code cache_behind
+  steps_then rc [] ys s = ap (after_t (steps_code blk rc ys) nowhere 0) (code-after nowhere 0 [] s s (none s))
+  steps_then rc (x ∷ xs) ys s =
+      let m : State = after_t (step_code blk rc x) nowhere 0 s in
+      then_is (step_code blk rc x) (steps_code blk (step_cache rc x) (xs ++ ys)) s ∙ steps_then (step_cache rc x) xs ys m
+      ∙ ap (after_t (steps_code blk (cache_behind (step_cache rc x) xs) ys) nowhere 0) (sym (then_is (step_code blk rc x) (steps_code blk (step_cache rc x) xs) s))
+
+  starts-then : (rc : RegCache) (xs ys : List Step) (s : State) → starts_t (steps_code blk rc (xs ++ ys)) nowhere 0 s ≡ starts_t (steps_code blk rc xs) nowhere 0 s ++ starts_t (steps_code blk (cache_behind rc xs) ys) nowhere 0 (after_t (steps_code blk rc xs) nowhere 0 s)
+  unfolding steps_code cache_behind starts_t
+  starts-then rc [] ys s = ap (starts_t (steps_code blk rc ys) nowhere 0) (code-after nowhere 0 [] s s (none s))
+  starts-then rc (x ∷ xs) ys s =
+      let m : State = after_t (step_code blk rc x) nowhere 0 s in
+      ap (λ l. starts_t (step_code blk rc x) nowhere 0 s ++ l)
+      (starts-then (step_cache rc x) xs ys m
+      ∙ ap (λ t. starts_t (steps_code blk (step_cache rc x) xs) nowhere 0 m ++ starts_t (steps_code blk (cache_behind (step_cache rc x) xs) ys) nowhere 0 t) (sym (then_is (step_code blk rc x) (steps_code blk (step_cache rc x) xs) s)))
+      ∙ sym (append_assoc (starts_t (step_code blk rc x) nowhere 0 s) _ _)
+
+  pub steps-after : (rc : RegCache) (xs ys : List Step) (s s₁ s₂ : State) → s₁ ≡ after_t (steps_code blk rc xs) nowhere 0 s → s₂ ≡ after_t (steps_code blk (cache_behind rc xs) ys) nowhere 0 s₁ → s₂ ≡ after_t (steps_code blk rc (xs ++ ys)) nowhere 0 s
+  steps-after rc xs ys s s₁ s₂ p q = q ∙ ap (after_t (steps_code blk (cache_behind rc xs) ys) nowhere 0) p ∙ sym (steps_then rc xs ys s)
+
+  pub steps-starts : (rc : RegCache) (xs ys : List Step) (s s₁ : State) → s₁ ≡ after_t (steps_code blk rc xs) nowhere 0 s → starts_t (steps_code blk rc (xs ++ ys)) nowhere 0 s ≡ starts_t (steps_code blk rc xs) nowhere 0 s ++ starts_t (steps_code blk (cache_behind rc xs) ys) nowhere 0 s₁
+  steps-starts rc xs ys s s₁ p = starts-then rc xs ys s ∙ ap (λ t. starts_t (steps_code blk rc xs) nowhere 0 s ++ starts_t (steps_code blk (cache_behind rc xs) ys) nowhere 0 t) (sym p)
 
 -- ---- of what is kept, no more than two
 take-kept : (n : ℕ) (xs ys : List ℕ) → take n (take n xs ++ ys) ≡ take n (xs ++ ys)

@@ -6,3 +6,4 @@ mod Prefixes
 mod Rows
 mod Search
 mod Sets
+pub mod Signs

@@ -7,14 +7,12 @@ use native.Mathlib.Omega.{arith}
 use lib.Dec.{ltb}
 use lib.ListN.{length}
 use Rattle.std.specs.Prelude.{Result, Ok, Err}
-use Rattle.arrayvec.specs.ArrayVec.{ArrayVec}
 use Rattle.block.specs.declared.Block.{Block}
 use Rattle.faults.specs.declared.Fault.TheVariants.{Room}
 use Rattle.faults.specs.declared.Refusal.{Refusal}
 use Rattle.record.specs.Record.{reading, found}
 use Rattle.record.proofs.Accepted.{Bytes}
 use Rattle.code.specs.Items.{pick}
-use Rattle.lowering.specs.Fragments.{opening}
 use Rattle.lowering.specs.Steps.{block_steps}
 use Rattle.lowering.specs.Compile.{block_code, block_words, body_offset, starts, targets, zip_sites, sites}
 use Rattle.finish.specs.declared.Short.{Short}
@@ -48,10 +46,6 @@ few_only : (t : Bool) (f g : Short) (m : ℕ) → ◌≡◌ {A = Result ℕ Shor
 few_only true f g m e = refl
 few_only false f g m e = absurd (let z : ◌≡◌ {A = ℕ} 0 1 = cc in omega arith)
 
-body_is : 52 ≡ body_offset
-unfolding body_offset opening
-body_is = refl
-
 module _ (bytes lent ws : List ℕ) (are : Bytes bytes) where
   -- a fault of reading
   pub met_fault : (r : Refusal) → found (Err r) ≡ reading bytes → ws ≡ zeros lent → Met bytes lent ws (Err r)
@@ -74,12 +68,11 @@ module _ (bytes lent ws : List ℕ) (are : Bytes bytes) where
         met bytes lent ws (Err (record { fault = Room; place = length bytes })) are (rw (← read, t)) words_are
 
     -- a block in the lent room
-    pub met_words : (n : ℕ) (ss : ArrayVec Site) → fin ≡ Ok n
-        → listed ss ≡ zip_sites (starts (block_code b) 0) (targets (block_steps b))
-        → Met bytes lent ws (Ok (record { words = n; body = 52; sites = ss }))
+    pub met_words : (n : ℕ) (x : Translation) → fin ≡ Ok n → x.words ≡ n → x.body ≡ body_offset
+        → listed x.sites ≡ zip_sites (starts (block_code b) 0) (targets (block_steps b)) → Met bytes lent ws (Ok x)
     unfolding translation told_behind block_told told_by sites
-    met_words n ss g h =
+    met_words n x g k o h =
         let m = length (block_words b) in
         let t = words_only (ltb (length lent) m) _ m n (sym g ∙ fin-is) in
-        let a = ap₂ (λ k l. accepted k 52 l) t.1 h ∙ ap (λ o. accepted m o (sites b)) body_is in
-        met bytes lent ws (Ok (record { words = n; body = 52; sites = ss })) are (rw (← read, t.0) a) words_are
+        let a = ap₂ (λ i l. accepted i x.body l) (k ∙ t.1) h ∙ ap (λ j. accepted m j (sites b)) o in
+        met bytes lent ws (Ok x) are (rw (← read, t.0) a) words_are

@@ -2,7 +2,7 @@
 use mathlib.Core.Path.{◌≡◌, sym, ap, subst, ◌∙◌}
 use mathlib.Core.List.{List}
 use Prim.Native.Nat.{ℕ}
-use Rattle.std.specs.Prelude.{Result, Ok, Err, IsErrAnd}
+use Rattle.std.specs.Prelude.{Result, Ok, Err}
 use Rattle.block.specs.declared.Block.{Block}
 use Rattle.faults.specs.declared.Refusal.{Refusal}
 use Rattle.record.specs.Record.{reading, found}
@@ -25,10 +25,9 @@ figured bytes r are e = (e, subst (λ n. Exact n bytes × Included n bytes) (sym
 -- ---- the ends of `words_needed`
 module _ (bytes : List ℕ) (are : Bytes bytes) where
   -- a fault of reading, handed on
-  pub figured-fault : (q : Refusal) (r : Result ℕ Refusal) → found (Err q) ≡ reading bytes → IsErrAnd r (λ e. e ≡ q) → Figured bytes r
+  pub figured-fault : (q : Refusal) → found (Err q) ≡ reading bytes → Figured bytes (Err q)
   unfolding words_needed need_behind
-  figured-fault q (Ok n) read h = absurd h
-  figured-fault q (Err e) read h = figured bytes (Err e) are (rw (h, ← read))
+  figured-fault q read = figured bytes (Err q) are (rw (← read))
 
   -- a block, counted whatever is lent
   pub figured-words : (b : Block) → found (Ok b) ≡ reading bytes

@@ -1,15 +1,11 @@
 -- WHAT AN ANSWER OF `translate` OR `words_needed` TELLS, in the documents' numbers.
-use Rattle.std.specs.Prelude.{List, ℕ, Result, Ok, Err}
-use Rattle.arrayvec.specs.ArrayVec.{ArrayVec}
+use Rattle.std.specs.Prelude.{ℕ, Result, Ok, Err}
 use Rattle.faults.specs.declared.Refusal.{Refusal}
 use Rattle.faults.specs.Faults.{fault_number}
-use Rattle.lowering.specs.declared.Site.{Site}
 use Rattle.answers.specs.Translation.{Told, accepted, refused}
 use Rattle.answers.specs.WordsNeeded.{Need, takes, refused_with}
 use Rattle.translation.specs.declared.Translation.{Translation}
-
-abbrev pub listed : ArrayVec Site → List Site
-listed v = v.items
+pub use Rattle.emission.specs.Sites.{listed}
 
 abbrev pub told : Result Translation Refusal → Told
 told (Ok t) = accepted t.words t.body (listed t.sites)

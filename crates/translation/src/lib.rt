@@ -5,21 +5,35 @@ ghost use Rattle.std.specs.Prelude.{◌≡◌};
 ghost use Rattle.answers.specs.Translation.{translation, lent_after};
 ghost use Rattle.answers.specs.Contract.{Sited, Runs, Meant};
 ghost use Rattle.answers.specs.WordsNeeded.{words_needed, Exact, Included};
-ghost use Rattle.translation.specs.Told.{told, need_told};
+ghost use Rattle.lowering.specs.Compile.{body_offset};
+ghost use Rattle.translation.specs.Told.{listed, told, need_told};
 
-use arrayvec::ArrayVec;
+pub use emission::Sites;
 use faults::{Fault, Refusal};
-use lowering::Site;
 
 // Chained blocks enter behind the opening words; in bytes.
 const BODY: u32 = 52;
 
 // An accepted record's block: its number of words, the body's offset in bytes, and the chain sites, at most two, by rising word position.
-#[derive(Drop)]
+#[derive(Clone, Copy)]
 pub struct Translation {
     pub words: u32,
     pub body: u32,
-    pub sites: ArrayVec<Site, 2>,
+    pub sites: Sites,
+}
+
+// The answer where a block fits: a function of its own, so that what is said of the sites here is shown by them alone.
+#[tactic(auto, unfolding(lowering::specs::Compile::body_offset, lowering::specs::Fragments::opening))]
+fn accepted(words: u32, sites: Sites) -> Translation
+    ensures words { result.words ≡ words }
+    ensures body { result.body ≡ body_offset }
+    ensures sites { listed result.sites ≡ listed sites }
+{
+    Translation {
+        words,
+        body: BODY,
+        sites,
+    }
 }
 
 // The words of an accepted record's block, those beyond untouched, and its chain sites by rising word position, each once; or the first
@@ -39,11 +53,7 @@ pub fn translate(
         Ok(block) => {
             let c = compile::compile(words, table, block);
             match c.finished {
-                Ok(n) => Ok(Translation {
-                    words: n,
-                    body: BODY,
-                    sites: c.sites,
-                }),
+                Ok(n) => Ok(accepted(n, c.sites)),
                 Err(_) => Err(Refusal {
                     fault: Fault::Room,
                     place: bytes.len(),
@@ -58,13 +68,17 @@ pub fn translate(
 }
 
 // The words that a record's block takes, by the lowering that `translate` calls: emitting counts also where there is no room. Nothing is
-// lent, so nothing is written but the table, which is working space.
+// lent, so nothing is written but the table, which is working space. A `match`, and no `?`: an edit of an arm's value leaves the rest.
 pub fn words_needed(bytes: &[u8], table: &mut [u64; 6152]) -> Result<u32, Refusal>
     ensures answer { need_told result ≡ words_needed bytes.now }
     ensures exact { Exact (need_told result) bytes.now }
     ensures included { Included (need_told result) bytes.now }
 {
-    let block = record::read(bytes)?;
-    let c = compile::compile(&mut [], table, block);
-    Ok(finish::count(c.finished))
+    match record::read(bytes) {
+        Ok(block) => {
+            let c = compile::compile(&mut [], table, block);
+            Ok(finish::count(c.finished))
+        }
+        Err(refusal) => Err(refusal),
+    }
 }

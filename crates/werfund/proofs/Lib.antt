@@ -1,3 +1,3 @@
-mod Known
+pub mod Known
 mod Laws
 mod Zero

@@ -11,7 +11,7 @@ ghost use Rattle.answers.specs.WordsNeeded.{words_needed, Exact, Included};
 ghost use Rattle.translation.specs.Told.{listed, told, need_told};
 ghost use Rattle.werfund.specs.Answers.{number_of, cells_of, need_number, need_cells, link_answer};
 
-use translation::Translation;
+use translation::{Sites, Translation};
 
 // Of an accepted record: place, words, body offset, sites, and two sites.
 fn block_cells(t: &Translation) -> [u64; 8]
@@ -19,10 +19,10 @@ fn block_cells(t: &Translation) -> [u64; 8]
 {
     let w = u64::from(t.words);
     let b = u64::from(t.body);
-    match t.sites.as_slice() {
-        [] => [0, w, b, 0, 0, 0, 0, 0],
-        [s] => [0, w, b, 1, u64::from(s.at), u64::from(s.target), 0, 0],
-        [s, u, ..] => [
+    match t.sites {
+        Sites::None => [0, w, b, 0, 0, 0, 0, 0],
+        Sites::One(s) => [0, w, b, 1, u64::from(s.at), u64::from(s.target), 0, 0],
+        Sites::Two(s, u) => [
             0,
             w,
             b,

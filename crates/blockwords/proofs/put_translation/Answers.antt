@@ -11,7 +11,7 @@ returns-in-Ok-clause-placed c =
     let t = c.translate.ensures in
     let len : length c.translate.new.words ≡ 16384 = search rules in
     accepted-puts _ _ _ _ _ _ t.answer t.words_after _ c.in-Ok.is _ (omega (arith, c.min-n.ensures, len))
-    (rw c.as_slice.ensures.value at c.accepted.ensures)
+    c.put_listing.ensures
 
 pub returns-in-Ok-clause-sited : goal.returns-in-Ok-clause-sited
 returns-in-Ok-clause-sited c = sited-told c.args.bytes.now lent

@@ -1,6 +1,4 @@
-use mathlib.Core.Path.{refl, ap}
-use mathlib.Core.List.{map}
-use Rattle.lowering.specs.declared.Site.{Site}
+use mathlib.Core.Path.{refl}
 use Rattle.compile.proofs.Laws.{emits}
 use Rattle.compile.proofs.emit.Goals as goal
 
@@ -10,8 +8,8 @@ returns c =
     (record {
       given = refl;
       cache = c.empty.ensures;
-      ats = ap (map (λ (s : Site). s.at)) c.new.ensures;
-      targets = ap (map (λ (s : Site). s.target)) c.new.ensures;
+      ats = refl;
+      targets = refl;
     })
     c.new_label-exit.ensures.wrote c.opening.ensures c.limit.ensures c.guarded.ensures c.emit_ops.ensures
     _ c.new_label-exit.ensures.label c.bind.ensures c.closing.ensures
