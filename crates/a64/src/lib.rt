@@ -52,6 +52,7 @@ pub use bitfield::tst_mask;
 pub use bitfield::ubfx;
 pub use bitfield::uxth;
 pub use chain::link;
+pub use constants::Sequence;
 pub use constants::add_imm32;
 pub use constants::gen_add_imm;
 pub use constants::ldr_lit_x;

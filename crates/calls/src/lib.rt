@@ -5,8 +5,8 @@
 ghost use Rattle.std.specs.Prelude.{◌≡◌};
 ghost use Rattle.calls.specs.declared.CallError.TheVariants.{Unknown, Refused};
 
+pub use a64::Sequence;
 use a64::{Cond, EncodeError};
-use arrayvec::ArrayVec;
 use std::num::TryFromIntError;
 use text::signed;
 
@@ -33,7 +33,7 @@ impl From<TryFromIntError> for CallError {
     }
 }
 
-pub fn call(name: &[u8], numbers: &[u64]) -> Result<ArrayVec<u32, 4>, CallError> {
+pub fn call(name: &[u8], numbers: &[u64]) -> Result<Sequence, CallError> {
     match numbers {
         [] => single(none(name)),
         &[a] => single(one(name, a)),
@@ -44,10 +44,8 @@ pub fn call(name: &[u8], numbers: &[u64]) -> Result<ArrayVec<u32, 4>, CallError>
     }
 }
 
-fn single(word: Result<u32, CallError>) -> Result<ArrayVec<u32, 4>, CallError> {
-    let mut words = ArrayVec::new();
-    words.push(word?);
-    Ok(words)
+fn single(word: Result<u32, CallError>) -> Result<Sequence, CallError> {
+    Ok(Sequence::One(word?))
 }
 
 // A match, and no `TryFrom`: only a line of text names a condition by its number.
@@ -93,7 +91,7 @@ fn one(name: &[u8], a: u64) -> Result<u32, CallError> {
     }
 }
 
-fn two(name: &[u8], a: u64, b: u64) -> Result<ArrayVec<u32, 4>, CallError> {
+fn two(name: &[u8], a: u64, b: u64) -> Result<Sequence, CallError> {
     match name {
         b"link" => single(Ok(a64::link(signed(a), signed(b))?)),
         b"b_cond" => single(Ok(a64::b_cond(cond(a)?, signed(b))?)),
@@ -101,7 +99,7 @@ fn two(name: &[u8], a: u64, b: u64) -> Result<ArrayVec<u32, 4>, CallError> {
     }
 }
 
-fn constant(name: &[u8], rd: u32, imm: u64) -> Result<ArrayVec<u32, 4>, CallError> {
+fn constant(name: &[u8], rd: u32, imm: u64) -> Result<Sequence, CallError> {
     match name {
         b"ldr_lit_x" => Ok(a64::ldr_lit_x(rd, imm)?),
         b"mov64" => Ok(a64::mov64(rd, imm)?),
@@ -157,7 +155,7 @@ fn float(name: &[u8], d: u32, n: u32) -> Result<u32, CallError> {
     Ok(word?)
 }
 
-fn three(name: &[u8], a: u64, b: u64, c: u64) -> Result<ArrayVec<u32, 4>, CallError> {
+fn three(name: &[u8], a: u64, b: u64, c: u64) -> Result<Sequence, CallError> {
     let rd = u32::try_from(a)?;
     let rn = u32::try_from(b)?;
     match name {
@@ -269,7 +267,7 @@ fn indexed(name: &[u8], rt: u32, rn: u32, wm: u32) -> Result<u32, CallError> {
     Ok(word?)
 }
 
-fn four(name: &[u8], a: u64, b: u64, c: u64, d: u64) -> Result<ArrayVec<u32, 4>, CallError> {
+fn four(name: &[u8], a: u64, b: u64, c: u64, d: u64) -> Result<Sequence, CallError> {
     let rd = u32::try_from(a)?;
     let rn = u32::try_from(b)?;
     let rm = u32::try_from(c)?;

@@ -1,14 +1,15 @@
 -- Answers of several words, piece by piece. Assumes nothing.
-use Rattle.std.proofs.Common.{◌≡◌, ◌<◌, ℕ, Bool, true, false, List, [], ◌∷◌, ◌++◌, sym, refl, ap, ◌∙◌, arith, append_assoc, nat_lt, lt-ltb}
+use Rattle.std.proofs.Common.{◌≡◌, ◌<◌, ℕ, Bool, true, false, List, [], ◌∷◌, ◌++◌, sym, refl, ap, ap₂, ◌∙◌, arith, append_assoc, nat_lt, lt-ltb}
 use Rattle.std.specs.Prelude.{Result, Ok, Err, IsErrAnd}
 use Rattle.std.proofs.lemmas.Result.{err_from_is_err_and}
-use Rattle.arrayvec.specs.ArrayVec.{ArrayVec}
 use Rattle.arm.specs.declared.Instr.{Instr}
 use Rattle.arm.specs.Instr.{encode, Carried}
 use Rattle.arm.specs.Decode.{both}
 use Rattle.words.specs.declared.EncodeError.{EncodeError}
 use Rattle.words.specs.declared.EncodeError.TheVariants.{Reach, Unaligned, Operand}
 use Rattle.words.specs.Answers.{answer, word_of, Told, accepted, refused}
+use Rattle.constants.specs.declared.Sequence.{Sequence}
+use Rattle.constants.specs.declared.Sequence.TheVariants.{Empty, One, Two, Three, Four}
 use Rattle.constants.specs.Constants.{words_of}
 use Rattle.constants.specs.Sequences.{told_words, words_if}
 use Rattle.words.proofs.Answers.{carried-word, error_of}
@@ -30,13 +31,20 @@ one w = w ∷ []
 abbrev pub two : ℕ → ℕ → List ℕ
 two v w = v ∷ w ∷ []
 
+-- one word put, and two
+pub one_put : {ws vs : List ℕ} {w i : ℕ} → ws ≡ [] → vs ≡ ws ++ (w ∷ []) → w ≡ i → vs ≡ one i
+one_put e h k = h ∙ ap₂ (λ l x. l ++ (x ∷ [])) e k
+
+pub two_put : {ws vs us : List ℕ} {v w i j : ℕ} → ws ≡ [] → vs ≡ ws ++ (v ∷ []) → us ≡ vs ++ (w ∷ []) → v ≡ i → w ≡ j → us ≡ two i j
+two_put e h g k l = g ∙ ap₂ (λ m x. m ++ (x ∷ [])) (one_put e h k) l
+
 no_words : (b : Bool) (ws : List ℕ) → b ≡ false → refused 13 0 [] ≡ words_if b ws
 unfolding words_if
 no_words true ws h = absurd (let z : ◌≡◌ {A = ℕ} 0 1 = cc in omega arith)
 no_words false ws h = refl
 
 -- at the exit of a `?`
-pub refuses : (r : Result (ArrayVec ℕ) EncodeError) (e : EncodeError) (b : Bool) (ws : List ℕ)
+pub refuses : (r : Result Sequence EncodeError) (e : EncodeError) (b : Bool) (ws : List ℕ)
     → IsErrAnd r (λ x. x ≡ e) → e ≡ Operand → b ≡ false → told_words r ≡ words_if b ws
 refuses r e b ws h k n =
     let p = err_from_is_err_and r h in
@@ -66,17 +74,28 @@ not_refused true ws n h e = let z : ◌≡◌ {A = ℕ} 0 1 = ap is_accepted h i
 not_refused false ws n h e = let z : ◌≡◌ {A = ℕ} 0 1 = cc in omega arith
 
 -- ---- `told_words` is one to one
-abbrev untold : Told (List ℕ) → Result (ArrayVec ℕ) EncodeError
-untold (accepted ws) = Ok (record { items = ws })
+abbrev in_turn : List ℕ → Sequence
+in_turn [] = Empty
+in_turn (a ∷ []) = One a
+in_turn (a ∷ b ∷ []) = Two a b
+in_turn (a ∷ b ∷ c ∷ []) = Three a b c
+in_turn (a ∷ b ∷ c ∷ d ∷ ws) = Four a b c d
+
+abbrev untold : Told (List ℕ) → Result Sequence EncodeError
+untold (accepted ws) = Ok (in_turn ws)
 untold (refused n p ws) = Err (error_of n)
 
-untold-told : (r : Result (ArrayVec ℕ) EncodeError) → untold (told_words r) ≡ r
-untold-told (Ok words) = refl
+untold-told : (r : Result Sequence EncodeError) → untold (told_words r) ≡ r
+untold-told (Ok Empty) = refl
+untold-told (Ok (One a)) = refl
+untold-told (Ok (Two a b)) = refl
+untold-told (Ok (Three a b c)) = refl
+untold-told (Ok (Four a b c d)) = refl
 untold-told (Err Reach) = refl
 untold-told (Err Unaligned) = refl
 untold-told (Err Operand) = refl
 
-pub told_words-once : (r s : Result (ArrayVec ℕ) EncodeError) → told_words r ≡ told_words s → r ≡ s
+pub told_words-once : (r s : Result Sequence EncodeError) → told_words r ≡ told_words s → r ≡ s
 told_words-once r s h = sym (untold-told r) ∙ ap untold h ∙ untold-told s
 
 -- ---- words behind words

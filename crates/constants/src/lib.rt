@@ -7,43 +7,64 @@ ghost use Rattle.arm.specs.declared.Instr.TheVariants.{Nop, LoadLiteral};
 ghost use Rattle.arm.specs.Instr.{encode};
 ghost use Rattle.arm.specs.Decode.{both};
 ghost use Rattle.constants.specs.Constants.{mov32_of, mov64_of, quarter_of, add_imm32_of, gen_add_imm_of, words_of};
-ghost use Rattle.constants.specs.Sequences.{told_words, words_if};
+ghost use Rattle.constants.specs.Sequences.{listed, told_words, words_if};
 
 use arm::{AddSub, Flags, Instr, Logic, Move, Second, Shift, Size};
 use arrayvec::ArrayVec;
 use words::{EncodeError, below, word};
 
-// These words, in order.
-fn sequence(words: &[u32]) -> ArrayVec<u32, 4>
-    requires { length words.now ≤ 4 }
-    ensures { result.items ≡ words.now }
-{
-    let mut sequence = ArrayVec::new();
-    sequence.try_extend_from_slice(words).unwrap();
-    sequence
+// The words of an encoder, in order, no word to four. An ArrayVec, by which they are put together, cannot be copied.
+#[derive(Clone, Copy)]
+pub enum Sequence {
+    Empty,
+    One(u32),
+    Two(u32, u32),
+    Three(u32, u32, u32),
+    Four(u32, u32, u32, u32),
 }
 
-pub fn mov32(rd: u32, imm: u32) -> Result<ArrayVec<u32, 4>, EncodeError>
-    ensures room { IfOk result (λ words. array_vec_len words < 4) }
+// These words, in order.
+fn in_order(words: &[u32]) -> Sequence
+    requires { length words.now ≤ 4 }
+    ensures { listed result ≡ words.now }
+{
+    match words {
+        [] => Sequence::Empty,
+        &[a] => Sequence::One(a),
+        &[a, b] => Sequence::Two(a, b),
+        &[a, b, c] => Sequence::Three(a, b, c),
+        &[a, b, c, d, ..] => Sequence::Four(a, b, c, d),
+    }
+}
+
+// Of a register that is there.
+fn halves(rd: u32, imm: u32) -> ArrayVec<u32, 4>
+    requires { rd < 32 }
+    ensures room { array_vec_len result < 4 }
+    ensures words { result.items ≡ words_of (mov32_of rd imm) }
+{
+    let high = imm / 65536;
+    let low = imm % 65536;
+    let mut words = ArrayVec::new();
+    if high == 0 {
+        words.push(word(Instr::MoveWide(Size::W, Move::Movz, 0, low, rd)));
+    } else if low == 0 {
+        words.push(word(Instr::MoveWide(Size::W, Move::Movz, 1, high, rd)));
+    } else if high == 65535 {
+        words.push(word(Instr::MoveWide(Size::W, Move::Movn, 0, 65535 - low, rd)));
+    } else {
+        words.push(word(Instr::MoveWide(Size::W, Move::Movz, 0, low, rd)));
+        words.push(word(Instr::MoveWide(Size::W, Move::Movk, 1, high, rd)));
+    }
+    words
+}
+
+pub fn mov32(rd: u32, imm: u32) -> Result<Sequence, EncodeError>
+    ensures room { IfOk result (λ words. length (listed words) < 4) }
     ensures words { told_words result ≡ words_if (nat_lt rd 32) (words_of (mov32_of rd imm)) }
 {
     below(rd, 32)?;
-    let high = imm / 65536;
-    let low = imm % 65536;
-    if high == 0 {
-        return Ok(sequence(&[word(Instr::MoveWide(Size::W, Move::Movz, 0, low, rd))]));
-    }
-    if low == 0 {
-        return Ok(sequence(&[word(Instr::MoveWide(Size::W, Move::Movz, 1, high, rd))]));
-    }
-    if high == 65535 {
-        return Ok(sequence(&[word(Instr::MoveWide(Size::W, Move::Movn, 0, 65535 - low, rd))]));
-    }
-    let first = word(Instr::MoveWide(Size::W, Move::Movz, 0, low, rd));
-    Ok(sequence(&[
-        first,
-        word(Instr::MoveWide(Size::W, Move::Movk, 1, high, rd)),
-    ]))
+    Ok(in_order(halves(rd, imm).as_slice()))
 }
 
 // One quarter of a 64-bit number, behind the words before it.
@@ -57,7 +78,7 @@ fn push_quarter(words: &mut ArrayVec<u32, 4>, rd: u32, hw: u32, part: u32)
     }
 }
 
-pub fn mov64(rd: u32, imm: u64) -> Result<ArrayVec<u32, 4>, EncodeError>
+pub fn mov64(rd: u32, imm: u64) -> Result<Sequence, EncodeError>
     ensures { told_words result ≡ words_if (nat_lt rd 32) (words_of (mov64_of rd imm)) }
 {
     below(rd, 32)?;
@@ -66,10 +87,10 @@ pub fn mov64(rd: u32, imm: u64) -> Result<ArrayVec<u32, 4>, EncodeError>
     push_quarter(&mut words, rd, 1, (imm / 0x1_0000 % 65536) as u32);
     push_quarter(&mut words, rd, 2, (imm / 0x1_0000_0000 % 65536) as u32);
     push_quarter(&mut words, rd, 3, (imm / 0x1_0000_0000_0000 % 65536) as u32);
-    Ok(words)
+    Ok(in_order(words.as_slice()))
 }
 
-pub fn add_imm32(rd: u32, rn: u32, imm: u32, scratch: u32) -> Result<ArrayVec<u32, 4>, EncodeError>
+pub fn add_imm32(rd: u32, rn: u32, imm: u32, scratch: u32) -> Result<Sequence, EncodeError>
     ensures { told_words result ≡ words_if (both (nat_lt rd 32) (both (nat_lt rn 32) (nat_lt scratch 32)))
         (words_of (add_imm32_of rd rn imm scratch)) }
 {
@@ -77,7 +98,7 @@ pub fn add_imm32(rd: u32, rn: u32, imm: u32, scratch: u32) -> Result<ArrayVec<u3
     below(rn, 32)?;
     below(scratch, 32)?;
     if imm < 4096 {
-        return Ok(sequence(&[word(Instr::AddSubImm(
+        return Ok(in_order(&[word(Instr::AddSubImm(
             Size::W,
             AddSub::Add,
             Flags::Keeps,
@@ -88,7 +109,7 @@ pub fn add_imm32(rd: u32, rn: u32, imm: u32, scratch: u32) -> Result<ArrayVec<u3
     }
     let negative = std::num::wrapping_sub_u32(0, imm);
     if negative < 4096 {
-        return Ok(sequence(&[word(Instr::AddSubImm(
+        return Ok(in_order(&[word(Instr::AddSubImm(
             Size::W,
             AddSub::Sub,
             Flags::Keeps,
@@ -107,22 +128,22 @@ pub fn add_imm32(rd: u32, rn: u32, imm: u32, scratch: u32) -> Result<ArrayVec<u3
         rn,
         rd,
     ));
-    let mut words = mov32(scratch, imm)?;
+    let mut words = halves(scratch, imm);
     words.push(add);
-    Ok(words)
+    Ok(in_order(words.as_slice()))
 }
 
 // `Gen::add_imm` of jit.rs.
-pub fn gen_add_imm(dst: u32, src: u32, imm: u32) -> Result<ArrayVec<u32, 4>, EncodeError>
+pub fn gen_add_imm(dst: u32, src: u32, imm: u32) -> Result<Sequence, EncodeError>
     ensures { told_words result ≡ words_if (both (nat_lt dst 32) (nat_lt src 32)) (words_of (gen_add_imm_of dst src imm)) }
 {
     below(dst, 32)?;
     below(src, 32)?;
     if imm == 0 {
         if dst == src {
-            return Ok(sequence(&[]));
+            return Ok(in_order(&[]));
         }
-        return Ok(sequence(&[word(Instr::LogicalShifted(
+        return Ok(in_order(&[word(Instr::LogicalShifted(
             Size::W,
             Logic::Orr,
             Second::Plain,
@@ -137,13 +158,13 @@ pub fn gen_add_imm(dst: u32, src: u32, imm: u32) -> Result<ArrayVec<u32, 4>, Enc
 }
 
 // A load from the pool as a code of its own: the load, a nop, and the number, low word first.
-pub fn ldr_lit_x(rd: u32, imm: u64) -> Result<ArrayVec<u32, 4>, EncodeError>
+pub fn ldr_lit_x(rd: u32, imm: u64) -> Result<Sequence, EncodeError>
     ensures { told_words result ≡ words_if (nat_lt rd 32) (encode (LoadLiteral 2 rd) ∷ encode Nop ∷ imm % 2 ^ 32 ∷ imm / 2 ^ 32 ∷ []) }
 {
     below(rd, 32)?;
     let load = word(Instr::LoadLiteral(2, rd));
     let nop = word(Instr::Nop);
-    Ok(sequence(&[
+    Ok(in_order(&[
         load,
         nop,
         (imm % 0x1_0000_0000) as u32,

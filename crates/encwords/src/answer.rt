@@ -1,6 +1,6 @@
 // A line of the input and its answer.
 use arrayvec::ArrayVec;
-use calls::CallError;
+use calls::{CallError, Sequence};
 use std::io;
 use std::io::Write;
 use text::{Buffer, Words};
@@ -16,7 +16,7 @@ fn numbers(words: Words) -> Option<ArrayVec<u64, 4>> {
 }
 
 // What a line calls: a name and its numbers.
-fn called(line: &[u8]) -> Result<ArrayVec<u32, 4>, CallError> {
+fn called(line: &[u8]) -> Result<Sequence, CallError> {
     let mut words = Words(line);
     let name = words.next().ok_or(CallError::Unknown)?;
     let numbers = numbers(words).ok_or(CallError::Unknown)?;
@@ -29,18 +29,20 @@ fn put_refused(out: &mut Buffer, e: EncodeError) {
     out.put(b" 0\n");
 }
 
-fn put_words(out: &mut Buffer, words: &[u32]) {
-    if words.is_empty() {
-        out.put(b"\n");
-    } else {
-        out.put_rows(words);
+fn put_words(out: &mut Buffer, words: Sequence) {
+    match words {
+        Sequence::Empty => out.put(b"\n"),
+        Sequence::One(a) => out.put_rows(&[a]),
+        Sequence::Two(a, b) => out.put_rows(&[a, b]),
+        Sequence::Three(a, b, c) => out.put_rows(&[a, b, c]),
+        Sequence::Four(a, b, c, d) => out.put_rows(&[a, b, c, d]),
     }
 }
 
 // Puts the line that answers a call.
-fn put_answer(out: &mut Buffer, answer: Result<ArrayVec<u32, 4>, CallError>) {
+fn put_answer(out: &mut Buffer, answer: Result<Sequence, CallError>) {
     match answer {
-        Ok(words) => put_words(out, words.as_slice()),
+        Ok(words) => put_words(out, words),
         Err(CallError::Unknown) => out.put(b"unknown\n"),
         Err(CallError::Refused(e)) => put_refused(out, e),
     }

@@ -16,10 +16,10 @@ returns-in_err-below-2 c = let a = c.args in
 pub returns-then-dst-src : goal.returns-then-dst-src
 returns-then-dst-src c = let a = c.args in
     gives _ _ _ (two_fit c.in_ok-below.ensures c.in_ok-below-2.ensures)
-    (simp (eq-eqb a.imm 0 (omega arith), eq-eqb a.dst a.src (omega arith)) c.sequence.ensures)
+    (simp (eq-eqb a.imm 0 (omega arith), eq-eqb a.dst a.src (omega arith)) c.in_order.ensures)
 
 pub returns-then-imm-eq0 : goal.returns-then-imm-eq0
 returns-then-imm-eq0 c = let a = c.args in
     gives _ _ _ (two_fit c.in_ok-below.ensures c.in_ok-below-2.ensures)
     (let w = word_is _ c.word.ensures (search rules) in
-    simp (eq-eqb a.imm 0 (omega arith), ne_eqb a.dst a.src (omega arith)) (c.sequence-then-imm-eq0.ensures ∙ ap one w))
+    simp (eq-eqb a.imm 0 (omega arith), ne_eqb a.dst a.src (omega arith)) (c.in_order-then-imm-eq0.ensures ∙ ap one w))

@@ -8,6 +8,6 @@ returns-in_err-below c = refuses _ _ _ _ c.from_residual.ensures.1 c.in_err-belo
 
 pub returns : goal.returns
 returns c = gives _ _ _ (lt-ltb c.args.rd 32 c.in_ok-below.ensures)
-    (c.sequence.ensures
+    (c.in_order.ensures
     ∙ ap₂ (λ v w. v ∷ w ∷ c.args.imm % 2 ^ 32 ∷ c.args.imm / 2 ^ 32 ∷ [])
     (word_is _ c.word-load.ensures (search rules)) (word_is _ c.word-nop.ensures (search rules)))

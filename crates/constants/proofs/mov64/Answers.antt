@@ -16,6 +16,7 @@ returns c = let a = c.args in
     let q2 = quarter_of a.rd 2 (a.imm / 2 ^ 32 % 65536) in
     let q3 = quarter_of a.rd 3 (a.imm / 2 ^ 48 % 65536) in
     gives _ _ _ (lt-ltb a.rd 32 c.in_ok-below.ensures)
-    (quarters _ _ _ _ (MoveWide X Movz 0 (a.imm % 65536) a.rd) q1 q2 q3
+    (c.in_order.ensures ∙ c.as_slice.ensures.value
+    ∙ quarters _ _ _ _ (MoveWide X Movz 0 (a.imm % 65536) a.rd) q1 q2 q3
     (c.push.ensures.items ∙ ap₂ (λ ws w. ws ++ (w ∷ [])) c.new-words.ensures (word_is _ c.word.ensures (search rules)))
     c.push_quarter.ensures.items c.push_quarter-2.ensures.items c.push_quarter-3.ensures.items)
