@@ -38,7 +38,7 @@ one_put e h k = h ∙ ap₂ (λ l x. l ++ (x ∷ [])) e k
 pub two_put : {ws vs us : List ℕ} {v w i j : ℕ} → ws ≡ [] → vs ≡ ws ++ (v ∷ []) → us ≡ vs ++ (w ∷ []) → v ≡ i → w ≡ j → us ≡ two i j
 two_put e h g k l = g ∙ ap₂ (λ m x. m ++ (x ∷ [])) (one_put e h k) l
 
-no_words : (b : Bool) (ws : List ℕ) → b ≡ false → refused 13 0 [] ≡ words_if b ws
+pub no_words : (b : Bool) (ws : List ℕ) → b ≡ false → refused 13 0 [] ≡ words_if b ws
 unfolding words_if
 no_words true ws h = absurd (let z : ◌≡◌ {A = ℕ} 0 1 = cc in omega arith)
 no_words false ws h = refl
@@ -59,10 +59,15 @@ abbrev words_in : Told (List ℕ) → List ℕ
 words_in (accepted ws) = ws
 words_in (refused n p ws) = ws
 
-pub given : (b : Bool) (ws vs : List ℕ) → accepted vs ≡ words_if b ws → b ≡ true → vs ≡ ws
+pub given : (b : Bool) (ws : List ℕ) (t : Told (List ℕ)) → t ≡ words_if b ws → b ≡ true → t ≡ accepted ws
 unfolding words_if
-given true ws vs h e = ap words_in h
-given false ws vs h e = absurd (let z : ◌≡◌ {A = ℕ} 0 1 = cc in omega arith)
+given true ws t h e = h
+given false ws t h e = absurd (let z : ◌≡◌ {A = ℕ} 0 1 = cc in omega arith)
+
+pub words_given : (b : Bool) (ws vs : List ℕ) → accepted vs ≡ words_if b ws → b ≡ true → vs ≡ ws
+unfolding words_if
+words_given true ws vs h e = ap words_in h
+words_given false ws vs h e = absurd (let z : ◌≡◌ {A = ℕ} 0 1 = cc in omega arith)
 
 abbrev is_accepted : Told (List ℕ) → ℕ
 is_accepted (accepted ws) = 1

@@ -37,7 +37,7 @@ fn in_order(words: &[u32]) -> Sequence
     }
 }
 
-// Of a register that is there.
+// The words of `mov32`, by the halves of the number, of a register that is there.
 fn halves(rd: u32, imm: u32) -> ArrayVec<u32, 4>
     requires { rd < 32 }
     ensures room { array_vec_len result < 4 }

@@ -68,7 +68,7 @@ pub fn translate(
 }
 
 // The words that a record's block takes, by the lowering that `translate` calls: emitting counts also where there is no room. Nothing is
-// lent, so nothing is written but the table, which is working space. A `match`, and no `?`: an edit of an arm's value leaves the rest.
+// lent, so nothing is written but the table, which is working space. A `match`, and no `?`: a must-fail edit changes an arm alone.
 pub fn words_needed(bytes: &[u8], table: &mut [u64; 6152]) -> Result<u32, Refusal>
     ensures answer { need_told result ≡ words_needed bytes.now }
     ensures exact { Exact (need_told result) bytes.now }
