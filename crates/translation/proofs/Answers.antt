@@ -13,6 +13,7 @@ use Rattle.faults.specs.declared.Refusal.{Refusal}
 use Rattle.record.specs.Record.{reading, found}
 use Rattle.record.proofs.Accepted.{Bytes}
 use Rattle.code.specs.Items.{pick}
+use Rattle.lowering.specs.Fragments.{opening}
 use Rattle.lowering.specs.Steps.{block_steps}
 use Rattle.lowering.specs.Compile.{block_code, block_words, body_offset, starts, targets, zip_sites, sites}
 use Rattle.finish.specs.declared.Short.{Short}
@@ -21,6 +22,7 @@ use Rattle.finish.specs.Whole.{laid, told as told_by}
 use Rattle.answers.specs.Translation.{accepted, block_told, told_behind, laid_behind, translation, lent_after}
 use Rattle.answers.proofs.Promises.{Promised, promised}
 use Rattle.lowering.specs.declared.Site.{Site}
+use Rattle.emission.specs.declared.Sites.{Sites}
 use Rattle.translation.specs.declared.Translation.{Translation}
 use Rattle.translation.specs.Told.{listed, told}
 
@@ -46,6 +48,10 @@ few_only : (t : Bool) (f g : Short) (m : ℕ) → ◌≡◌ {A = Result ℕ Shor
 few_only true f g m e = refl
 few_only false f g m e = absurd (let z : ◌≡◌ {A = ℕ} 0 1 = cc in omega arith)
 
+body_is : 52 ≡ body_offset
+unfolding body_offset opening
+body_is = refl
+
 module _ (bytes lent ws : List ℕ) (are : Bytes bytes) where
   -- a fault of reading
   pub met_fault : (r : Refusal) → found (Err r) ≡ reading bytes → ws ≡ zeros lent → Met bytes lent ws (Err r)
@@ -68,11 +74,17 @@ module _ (bytes lent ws : List ℕ) (are : Bytes bytes) where
         met bytes lent ws (Err (record { fault = Room; place = length bytes })) are (rw (← read, t)) words_are
 
     -- a block in the lent room
-    pub met_words : (n : ℕ) (x : Translation) → fin ≡ Ok n → x.words ≡ n → x.body ≡ body_offset
+    pub met_translation : (n : ℕ) (x : Translation) → fin ≡ Ok n → x.words ≡ n → x.body ≡ body_offset
         → listed x.sites ≡ zip_sites (starts (block_code b) 0) (targets (block_steps b)) → Met bytes lent ws (Ok x)
     unfolding translation told_behind block_told told_by sites
-    met_words n x g k o h =
+    met_translation n x g k o h =
         let m = length (block_words b) in
         let t = words_only (ltb (length lent) m) _ m n (sym g ∙ fin-is) in
         let a = ap₂ (λ i l. accepted i x.body l) (k ∙ t.1) h ∙ ap (λ j. accepted m j (sites b)) o in
         met bytes lent ws (Ok x) are (rw (← read, t.0) a) words_are
+
+    -- the same of an answer that is written out
+    pub met_words : (n : ℕ) (ss : Sites) → fin ≡ Ok n
+        → listed ss ≡ zip_sites (starts (block_code b) 0) (targets (block_steps b))
+        → Met bytes lent ws (Ok (record { words = n; body = 52; sites = ss }))
+    met_words n ss g h = met_translation n (record { words = n; body = 52; sites = ss }) g refl body_is h

@@ -1,8 +1,8 @@
 -- What `words_needed` answers at each of its ends is the definition's.
-use mathlib.Core.Path.{◌≡◌, sym, ap, subst, ◌∙◌}
+use mathlib.Core.Path.{◌≡◌, refl, sym, ap, subst, ◌∙◌}
 use mathlib.Core.List.{List}
 use Prim.Native.Nat.{ℕ}
-use Rattle.std.specs.Prelude.{Result, Ok, Err}
+use Rattle.std.specs.Prelude.{Result, Ok, Err, IsErrAnd}
 use Rattle.block.specs.declared.Block.{Block}
 use Rattle.faults.specs.declared.Refusal.{Refusal}
 use Rattle.record.specs.Record.{reading, found}
@@ -25,9 +25,14 @@ figured bytes r are e = (e, subst (λ n. Exact n bytes × Included n bytes) (sym
 -- ---- the ends of `words_needed`
 module _ (bytes : List ℕ) (are : Bytes bytes) where
   -- a fault of reading, handed on
-  pub figured-fault : (q : Refusal) → found (Err q) ≡ reading bytes → Figured bytes (Err q)
+  pub figured-fault : (q : Refusal) (r : Result ℕ Refusal) → found (Err q) ≡ reading bytes → IsErrAnd r (λ e. e ≡ q) → Figured bytes r
   unfolding words_needed need_behind
-  figured-fault q read = figured bytes (Err q) are (rw (← read))
+  figured-fault q (Ok n) read h = absurd h
+  figured-fault q (Err e) read h = figured bytes (Err e) are (rw (h, ← read))
+
+  -- the same of the fault itself
+  pub figured-refusal : (q : Refusal) → found (Err q) ≡ reading bytes → Figured bytes (Err q)
+  figured-refusal q read = figured-fault q (Err q) read refl
 
   -- a block, counted whatever is lent
   pub figured-words : (b : Block) → found (Ok b) ≡ reading bytes
